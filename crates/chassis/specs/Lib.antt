@@ -1,0 +1,6 @@
+-- The table, as document 01 describes it under "The network".
+pub mod Numbers
+pub mod Channels
+pub mod Ways
+pub mod Routes
+pub mod Tables

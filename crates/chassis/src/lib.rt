@@ -1,0 +1,30 @@
+// The table: buses, bridges and agents, and what follows from it alone.
+
+// Agent numbers, bus numbers and channel numbers are kept apart throughout: one type each.
+pub struct Agent(pub u8);
+
+pub struct Bus(pub u8);
+
+pub struct Chan(pub u8);
+
+// A bridge record: two bus numbers.
+pub struct Bridge {
+    pub first: Bus,
+    pub second: Bus,
+}
+
+// A list of bridge records and one bus for each agent make the table; `limits` are those for P, R and C.
+pub struct Table {
+    pub buses: u8,
+    pub bridges: u8,
+    pub agents: u8,
+    pub limits: [u8; 3],
+    pub pairs: [Bridge; 15],
+    pub homes: [Bus; 32],
+}
+
+// The next place on a way: the target itself, or a bridge channel.
+pub enum NextPlace {
+    Target,
+    Through(Chan),
+}

@@ -1,0 +1,7 @@
+-- The nine kinds: record bytes, grounds in their order, effects and values, the single step, the states reached.
+pub mod Records
+pub mod Tests
+pub mod Grounds
+pub mod Effects
+pub mod Steps
+pub mod Reached

@@ -1,0 +1,4 @@
+-- What document 01 says under "Entries and channels" and "Passing", for one channel.
+pub mod Entries
+pub mod Queues
+pub mod Packing

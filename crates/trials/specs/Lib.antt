@@ -1,0 +1,3 @@
+-- The marked trials of document 01, about the definitions alone.
+pub mod Streams
+pub mod Marked
