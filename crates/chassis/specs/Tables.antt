@@ -42,13 +42,19 @@ unused-are-zero T =
     all is-zero-bridge (drop (T .bridges) (T .pairs))
     && all is-zero-bus (drop (T .agents) (T .homes))
 
+abbrev pub has-both-buses : Table → Bridge → Bool
+has-both-buses T g = has-bus T (g .first) && has-bus T (g .second)
+
 unfoldable pub buses-are-there : Table → Bool
 buses-are-there T =
-    all (λ g. has-bus T (g .first) && has-bus T (g .second)) (bridges-of T)
+    all (has-both-buses T) (bridges-of T)
     && all (has-bus T) (homes-of T)
 
+abbrev pub is-on-one-bus : Bridge → Bool
+is-on-one-bus g = same-bus (g .first) (g .second)
+
 unfoldable pub a-bridge-on-one-bus : Table → Bool
-a-bridge-on-one-bus T = any (λ g. same-bus (g .first) (g .second)) (bridges-of T)
+a-bridge-on-one-bus T = any is-on-one-bus (bridges-of T)
 
 -- `stray`: whatever else brought the table, its bytes, has an unused one that is not 0
 unfoldable pub table-grounds : Table → Bool → List Ground

@@ -36,6 +36,21 @@ tick-other Accepted = 0
 tick-other (Refused n i) = 0
 tick-other (Conflict i j) = j
 
+-- the events of the records that are known
+unfoldable pub known : List Decoded → List Event
+known [] = []
+known (Unfit ∷ ds) = known ds
+known (Known e ∷ ds) = e ∷ known ds
+
+-- the state that events reach taken one by one in listed order, and the value of each there
+unfoldable pub end-of : Net → List Event → Net
+end-of s [] = s
+end-of s (e ∷ es) = end-of (after s e) es
+
+unfoldable pub values-of : Net → List Event → List ℕ
+values-of s [] = []
+values-of s (e ∷ es) = value s e ∷ values-of (after s e) es
+
 -- the lowest record that would be refused alone in s, with its number; places count from i
 unfoldable pub first-refused : Net → ℕ → List Decoded → Option TickAnswer
 first-refused s i [] = none
@@ -52,21 +67,6 @@ unfoldable pub first-pair : Net → ℕ → List Event → Option TickAnswer
 first-pair s i [] = none
 first-pair s i (e ∷ es) =
     elim (partner s e (suc i) es) [ none ↦ first-pair s (suc i) es | some j ↦ some (Conflict i j) ]
-
--- the events of the records that are known
-unfoldable pub known : List Decoded → List Event
-known [] = []
-known (Unfit ∷ ds) = known ds
-known (Known e ∷ ds) = e ∷ known ds
-
--- the state that events reach taken one by one in listed order, and the value of each there
-unfoldable pub end-of : Net → List Event → Net
-end-of s [] = s
-end-of s (e ∷ es) = end-of (after s e) es
-
-unfoldable pub values-of : Net → List Event → List ℕ
-values-of s [] = []
-values-of s (e ∷ es) = value s e ∷ values-of (after s e) es
 
 -- what a tick hands back: its answer, the state, and the lent answer list as it stands then
 pub record Ticked : Type 0 where

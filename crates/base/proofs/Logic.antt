@@ -1,0 +1,42 @@
+-- Tests taken apart: a case split that keeps its equation, and what a true or false test says of its parts.
+use Prim.Native.Nat.{ℕ, suc, _<_}
+use mathlib.Core.Path.{_≡_, refl, sym, _∙_}
+use mathlib.Core.Bool.{Bool, true, false, cond, not, _&&_, _||_}
+use mathlib.Core.Logic.{_⊎_, inl, inr}
+use mathlib.Core.Option.{Option, none, some}
+use native.Mathlib.Omega.{arith}
+use borrow.Author.Tests.{eqb-true, eqb-false}
+use lib.Dec.{eqb}
+
+-- by a test, with what it said
+pub split {ℓ} : {P : Type ℓ} (b : Bool) → (b ≡ true → P) → (b ≡ false → P) → P
+split true t f = t refl
+split false t f = f refl
+
+-- by what is there
+pub there {ℓ} : {A : Type 0} {P : Type ℓ} (o : Option A) → (o ≡ none → P) → ((a : A) → o ≡ some a → P) → P
+there none n s = n refl
+there (some a) n s = s a refl
+
+pub true-false : true ≡ false → ⊥
+true-false e = let z : _≡_ {A = ℕ} 0 1 = cc in omega arith
+
+pub both : (b : Bool) → b ≡ true → b ≡ false → ⊥
+both b y n = true-false (sym y ∙ n)
+
+pub equal? : (m n : ℕ) → (m ≡ n) ⊎ (m ≡ n → ⊥)
+equal? m n = split (eqb m n) (λ e. inl (eqb-true m n e)) (λ e. inr (eqb-false m n e))
+
+pub and-true : (a b : Bool) → a && b ≡ true → (a ≡ true) × (b ≡ true)
+and-true true b h = (refl, h)
+and-true false b h = absurd (true-false (sym h))
+
+pub true-and : (a b : Bool) → a ≡ true → b ≡ true → a && b ≡ true
+true-and a b h k = rw (h, k)
+
+pub or-false : (a b : Bool) → a || b ≡ false → (a ≡ false) × (b ≡ false)
+or-false true b h = absurd (true-false h)
+or-false false b h = (refl, h)
+
+pub none-some : {A : Type 0} {a : A} {o : Option A} → o ≡ none → o ≡ some a → ⊥
+none-some p q = let z : _≡_ {A = ℕ} 0 1 = cc in omega arith

@@ -1,0 +1,2 @@
+-- Laws of one channel.
+pub mod Plainly

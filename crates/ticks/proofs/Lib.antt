@@ -1,0 +1,2 @@
+-- Laws of one tick.
+pub mod Judged
