@@ -4,3 +4,4 @@ pub mod Components
 pub mod Unique
 pub mod Trees
 pub mod Passing
+pub mod Steps

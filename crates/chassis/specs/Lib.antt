@@ -4,3 +4,4 @@ pub mod Channels
 pub mod Ways
 pub mod Routes
 pub mod Tables
+pub mod Answers

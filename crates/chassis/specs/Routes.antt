@@ -11,7 +11,7 @@ use Rattle.chassis.specs.declared.Table.{Table}
 use Rattle.chassis.specs.declared.NextPlace.{NextPlace}
 use Rattle.chassis.specs.declared.NextPlace.the-variants.{Target, Through}
 use Rattle.chassis.specs.Numbers.{bus, chan, same-bus, same-chan}
-use Rattle.chassis.specs.Channels.{first-bus, second-bus, home, master-channel, out-bus}
+use Rattle.chassis.specs.Channels.{first-bus, second-bus, home, master-channel, out-bus, opposite}
 use Rattle.chassis.specs.Ways.{Hop, hop}
 
 -- q's component becomes p's
@@ -78,3 +78,7 @@ among N l = any (same-chan N) l
 -- the way from agent m to agent t starts in channel m
 unfoldable pub on-the-way : Table → Agent → Agent → Chan → Bool
 on-the-way T m t N = same-chan N (master-channel m) || among N (bridge-channels T m t)
+
+-- N is the opposite of a bridge channel on that way
+unfoldable pub opposes-the-way : Table → Agent → Agent → Chan → Bool
+opposes-the-way T m t N = any (λ X. same-chan N (opposite T X)) (bridge-channels T m t)

@@ -28,3 +28,15 @@ pub enum NextPlace {
     Target,
     Through(Chan),
 }
+
+// What a table check answers.
+pub enum TableAnswer {
+    Passed,
+    Refused(u8),
+}
+
+// What the public route question answers: a refusal, or the next place.
+pub enum RouteAnswer {
+    Refused(u8),
+    Next(NextPlace),
+}

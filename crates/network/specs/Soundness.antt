@@ -4,12 +4,12 @@ use mathlib.Core.Bool.{Bool, cond, not, _&&_, _||_}
 use mathlib.Core.List.{List}
 use lib.ListN.{drop}
 use lib.Dec.{ltb, leb, eqb}
-use Rattle.base.specs.Lists.{all, any, all-from}
+use Rattle.base.specs.Lists.{all, all-from}
 use Rattle.chassis.specs.declared.Chan.{Chan}
 use Rattle.chassis.specs.declared.Table.{Table}
-use Rattle.chassis.specs.Numbers.{chan, same-agent, same-chan}
-use Rattle.chassis.specs.Channels.{has-agent, chan-count, limit, opposite}
-use Rattle.chassis.specs.Routes.{bridge-channels, on-the-way}
+use Rattle.chassis.specs.Numbers.{chan, same-agent}
+use Rattle.chassis.specs.Channels.{has-agent, chan-count, limit}
+use Rattle.chassis.specs.Routes.{on-the-way, opposes-the-way}
 use Rattle.chassis.specs.Tables.{table-passes, within}
 use Rattle.queue.specs.declared.Entry.{Entry}
 use Rattle.queue.specs.declared.Channel.{Channel}
@@ -30,7 +30,7 @@ within-limits T l = all (λ k. leb (filling k l) (limit T k)) kinds
 unfoldable pub stands-right : Table → Chan → Entry → Bool
 stands-right T N x =
     cond (is-kind C x)
-    (any (λ X. same-chan N (opposite T X)) (bridge-channels T (x .transaction .master) (x .target)))
+    (opposes-the-way T (x .transaction .master) (x .target) N)
     (on-the-way T (x .transaction .master) (x .target) N)
 
 -- an entry of channel N

@@ -2,3 +2,5 @@
 pub mod Entries
 pub mod Queues
 pub mod Packing
+pub mod Changes
+pub mod Methods

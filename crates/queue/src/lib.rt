@@ -22,3 +22,25 @@ pub struct Channel {
     pub entries: [Entry; 24],
     pub count: usize,
 }
+
+// The place of an entry in its channel.
+pub enum Found {
+    At(usize),
+    Nothing,
+}
+
+// What a channel shows of the oldest entry of a kind and transaction: whether it is there, whether an older P stands
+// before it, and the entry itself (zero where it is not there).
+pub struct Look {
+    pub found: bool,
+    pub behind: bool,
+    pub entry: Entry,
+}
+
+// What an event does to one channel. The entry that is taken out or marked is named by its kind and transaction.
+pub enum Change {
+    Nothing,
+    Add(Entry),
+    TakeOut(Entry),
+    Mark(Entry),
+}
