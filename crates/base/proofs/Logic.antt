@@ -1,6 +1,6 @@
 -- Tests taken apart: a case split that keeps its equation, and what a true or false test says of its parts.
 use Prim.Native.Nat.{ℕ, suc, _<_}
-use mathlib.Core.Path.{_≡_, refl, sym, _∙_}
+use mathlib.Core.Path.{_≡_, refl, ap, sym, _∙_}
 use mathlib.Core.Bool.{Bool, true, false, cond, not, _&&_, _||_}
 use mathlib.Core.Logic.{_⊎_, inl, inr}
 use mathlib.Core.Option.{Option, none, some}
@@ -33,6 +33,23 @@ and-true false b h = absurd (true-false (sym h))
 
 pub true-and : (a b : Bool) → a ≡ true → b ≡ true → a && b ≡ true
 true-and a b h k = rw (h, k)
+
+pub and-assoc : (a b c : Bool) → (a && b) && c ≡ a && (b && c)
+and-assoc true b c = refl
+and-assoc false b c = refl
+
+pub and-swap : (a b c : Bool) → a && (b && c) ≡ b && (a && c)
+and-swap true true c = refl
+and-swap true false c = refl
+and-swap false true c = refl
+and-swap false false c = refl
+
+pub and-end : (a : Bool) → a ≡ a && true
+and-end true = refl
+and-end false = refl
+
+pub and-four : (a b c d : Bool) → (a && c) && (b && d) ≡ (a && b) && (c && d)
+and-four a b c d = simp and-assoc (ap (a &&_) (and-swap c b d))
 
 pub or-false : (a b : Bool) → a || b ≡ false → (a ≡ false) × (b ≡ false)
 or-false true b h = absurd (true-false h)

@@ -1,15 +1,12 @@
 -- What a table that passes grounds 23 to 27 has; and where 23 and 25 do not hold, 27 holds exactly where there is not
 -- exactly one way.
-use Prim.Native.Nat.{ℕ, _<_}
+use Prim.Native.Nat.{ℕ}
 use mathlib.Core.Path.{_≡_, refl, sym}
-use mathlib.Core.Bool.{Bool, true, false, not, _&&_, _||_}
+use mathlib.Core.Bool.{true, false, not}
 use mathlib.Core.Logic.{_↔_}
-use mathlib.Core.List.{List}
 use mathlib.Core.Option.{Option, none, some}
-use native.Mathlib.Omega.{arith}
-use borrow.Author.Tests.{ltb-true, lt-ltb, leb-true, not-false}
+use borrow.Author.Tests.{ltb-true, lt-ltb, not-false}
 use lib.ListN.{take}
-use lib.Dec.{leb}
 use Rattle.base.specs.Lists.{all, is-some}
 use Rattle.base.specs.Grounds.{refusal}
 use Rattle.base.proofs.Logic.{and-true, or-false, true-and, true-false}
@@ -19,7 +16,8 @@ use Rattle.chassis.specs.declared.Table.{Table}
 use Rattle.chassis.specs.Channels.{no-bridge, has-bus, first-bus, second-bus}
 use Rattle.chassis.specs.Ways.{ExactlyOneWay}
 use Rattle.chassis.specs.Routes.{one-way}
-use Rattle.chassis.specs.Tables.{within, homes-of, has-both-buses, counts-in-range, unused-are-zero, buses-are-there, a-bridge-on-one-bus, table-grounds, table-passes}
+use Rattle.chassis.specs.Tables.{homes-of, has-both-buses, counts-in-range, unused-are-zero, buses-are-there, a-bridge-on-one-bus, table-grounds, table-passes}
+use Rattle.chassis.proofs.Counts.{counts}
 use Rattle.chassis.proofs.Trees.{Ends, one-way-is-one, one-way-is-exactly-one-way}
 
 not-refused : (o : Option ℕ) → not (is-some o) ≡ true → o ≡ none
@@ -45,21 +43,12 @@ passed T h =
       ways = not-false (one-way T) (r .1 .1 .1 .1 .0);
     }
 
--- ---- 23 and 25 in numbers
-
-some-bus : (T : Table) → counts-in-range T ≡ true → 0 < T .buses
-unfolding counts-in-range
-some-bus T h =
-    let a = within 1 16 (T .buses) in
-    let b = within 0 15 (T .bridges) in
-    let c = within 1 32 (T .agents) in
-    let r = and-true a b (and-true (a && b) c (and-true (a && b && c) (all (within 1 8) (T .limits)) h .0) .0) .0 in
-    leb-true 1 (T .buses) (and-true (leb 1 (T .buses)) (leb (T .buses) 16) r .0)
+-- ---- 25 in numbers
 
 pub ends : (T : Table) → counts-in-range T ≡ true → buses-are-there T ≡ true → Ends T
 unfolding buses-are-there
 ends T c h g k =
-    let zero-there : has-bus T (no-bridge .first) ≡ true = lt-ltb 0 (T .buses) (some-bus T c) in
+    let zero-there : has-bus T (no-bridge .first) ≡ true = lt-ltb 0 (T .buses) (counts T c .buses .0) in
     let r = all-take (has-both-buses T) (T .bridges) (T .pairs) no-bridge (and-true (all (has-both-buses T) (take (T .bridges) (T .pairs))) (all (has-bus T) (homes-of T)) h .0) (true-and (has-bus T (no-bridge .first)) (has-bus T (no-bridge .second)) zero-there zero-there) g k in
     let q = and-true (has-bus T (first-bus T g)) (has-bus T (second-bus T g)) r in
     (ltb-true (first-bus T g .0) (T .buses) (q .0), ltb-true (second-bus T g .0) (T .buses) (q .1))

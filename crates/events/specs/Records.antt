@@ -1,9 +1,9 @@
 -- Eight record bytes to an event, and ground 1: kind, channel, master, target, number (two bytes, low first), two zero bytes.
-use Prim.Native.Nat.{ℕ, zero, suc, _+_, _*_}
-use mathlib.Core.Bool.{Bool, true, false, cond, _&&_}
+use Prim.Native.Nat.{ℕ, _+_, _*_}
+use mathlib.Core.Bool.{Bool, cond, _&&_}
 use mathlib.Core.List.{List}
 use lib.ListN.{getD}
-use lib.Dec.{eqb}
+use lib.Dec.{eqb, ltb}
 use Rattle.chassis.specs.declared.Agent.{Agent}
 use Rattle.chassis.specs.declared.Chan.{Chan}
 use Rattle.chassis.specs.Numbers.{agent, chan}
@@ -21,37 +21,43 @@ abbrev pub number-in : List ℕ → ℕ
 number-in b = byte b 4 + 256 * byte b 5
 
 -- a begin does not use channel and number, other kinds do not use target, none uses the last two bytes
-unfoldable pub rest-is-zero : List ℕ → Bool
+abbrev pub rest-is-zero : List ℕ → Bool
 rest-is-zero b = eqb (byte b 6) 0 && eqb (byte b 7) 0
 
-unfoldable pub begin-unused-zero : List ℕ → Bool
-begin-unused-zero b = eqb (byte b 1) 0 && eqb (number-in b) 0 && rest-is-zero b
+abbrev pub begin-unused-zero : List ℕ → Bool
+begin-unused-zero b = eqb (byte b 1) 0 && (eqb (byte b 4) 0 && (eqb (byte b 5) 0 && rest-is-zero b))
 
-unfoldable pub other-unused-zero : List ℕ → Bool
+abbrev pub other-unused-zero : List ℕ → Bool
 other-unused-zero b = eqb (byte b 3) 0 && rest-is-zero b
 
-abbrev pub begins-with : List ℕ → (Agent → Agent → Event) → Decoded
-begins-with b e = cond (begin-unused-zero b) (Known (e (agent (byte b 2)) (agent (byte b 3)))) Unfit
+-- kinds 1 to 3
+abbrev pub begin-event : ℕ → Agent → Agent → Decoded
+begin-event k m a =
+    cond (eqb k 1) (Known (BeginPosted m a))
+    (cond (eqb k 2) (Known (BeginRead m a))
+    (cond (eqb k 3) (Known (BeginWrite m a))
+    Unfit))
 
-abbrev pub names-with : List ℕ → (Chan → Transaction → Event) → Decoded
-names-with b e =
-    cond (other-unused-zero b)
-    (Known (e (chan (byte b 1)) (record { master = agent (byte b 2); number = number-in b })))
-    Unfit
+-- kinds 4 to 9
+abbrev pub named-event : ℕ → Chan → Transaction → Decoded
+named-event k N t =
+    cond (eqb k 4) (Known (Commit N t))
+    (cond (eqb k 5) (Known (Post N t))
+    (cond (eqb k 6) (Known (Latch N t))
+    (cond (eqb k 7) (Known (Complete N t))
+    (cond (eqb k 8) (Known (DropRequest N t))
+    (cond (eqb k 9) (Known (DropCompletion N t))
+    Unfit)))))
+
+abbrev pub transaction-in : List ℕ → Transaction
+transaction-in b = record { master = agent (byte b 2); number = number-in b }
 
 -- by the kind in byte 0; an unknown kind is unfit whatever else
 unfoldable pub decoded : List ℕ → Decoded
 decoded b =
-    cond (eqb (byte b 0) 1) (begins-with b BeginPosted)
-    (cond (eqb (byte b 0) 2) (begins-with b BeginRead)
-    (cond (eqb (byte b 0) 3) (begins-with b BeginWrite)
-    (cond (eqb (byte b 0) 4) (names-with b Commit)
-    (cond (eqb (byte b 0) 5) (names-with b Post)
-    (cond (eqb (byte b 0) 6) (names-with b Latch)
-    (cond (eqb (byte b 0) 7) (names-with b Complete)
-    (cond (eqb (byte b 0) 8) (names-with b DropRequest)
-    (cond (eqb (byte b 0) 9) (names-with b DropCompletion)
-    Unfit))))))))
+    cond (ltb (byte b 0) 4)
+    (cond (begin-unused-zero b) (begin-event (byte b 0) (agent (byte b 2)) (agent (byte b 3))) Unfit)
+    (cond (other-unused-zero b) (named-event (byte b 0) (chan (byte b 1)) (transaction-in b)) Unfit)
 
 -- document 01's number of each kind
 abbrev pub kind-number : Event → ℕ

@@ -1,6 +1,6 @@
 -- The single step: 16, 18, 1, then the kind's grounds. A refusal has value 0 and the state unchanged.
 use Prim.Native.Nat.{ℕ}
-use mathlib.Core.Bool.{Bool, true, not}
+use mathlib.Core.Bool.{Bool, true, cond, not}
 use mathlib.Core.List.{List, [], _∷_}
 use mathlib.Core.Option.{Option, none, some}
 use lib.ListN.{length}
@@ -27,6 +27,10 @@ refusal-number (Refused n) = n
 abbrev pub answer-value : Answer → ℕ
 answer-value (Accepted v) = v
 answer-value (Refused n) = 0
+
+-- and back, where 0 says accepted
+abbrev pub answer-of : ℕ → ℕ → Answer
+answer-of n v = cond (eqb n 0) (Accepted v) (Refused n)
 
 -- what a record is refused for in a state, with ground 1 in front
 unfoldable pub record-grounds : Net → Decoded → List Ground

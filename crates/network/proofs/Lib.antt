@@ -1,2 +1,10 @@
 -- Laws of the state.
-pub mod Zero
+pub mod AllZero
+pub mod Rules
+pub mod Fits
+pub mod Packing
+pub mod Testing
+pub mod Good
+pub mod Kept
+pub mod Acts
+pub mod OfType

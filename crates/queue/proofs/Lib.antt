@@ -1,2 +1,6 @@
 -- Laws of one channel.
 pub mod Plainly
+pub mod Turns
+pub mod Placed
+pub mod Packed
+pub mod Lengths

@@ -1,0 +1,133 @@
+// A block of single steps played, and its lines written into a lent buffer.
+use crate::BlockAnswer;
+use crate::frames::block_answer;
+use crate::frames::record_bytes;
+use crate::frames::table_of;
+use crate::lines::put_e;
+use crate::lines::put_net;
+use crate::lines::put_stop;
+use events::plays::play;
+use network::State;
+use network::empty;
+ghost use mathlib.Core.Path.{_≡_};
+ghost use mathlib.Core.Bool.{true};
+ghost use Prim.Native.Nat.{_+_, _*_, _/_, _≤_};
+ghost use lib.ListN.{length};
+ghost use Rattle.network.specs.Soundness.{sound};
+ghost use Rattle.blocks.specs.Answers.{block-answer};
+ghost use Rattle.blocks.specs.Blocks.{record-count, block-records};
+ghost use Rattle.blocks.specs.Lines.{texts};
+ghost use Rattle.blocks.specs.Logs.{steps, entries-left};
+ghost use Rattle.blocks.specs.Plays.{step-texts};
+ghost use Rattle.blocks.specs.Runs.{run-lines, run-state, goes-on};
+ghost use Rattle.blocks.specs.Writing.{Written};
+
+// One `e` line for each of the n records of `r`.
+fn put_steps(
+    out: &mut [u8],
+    at: usize,
+    block: u32,
+    r: &[u8],
+    refusals: &[u8],
+    values: &[u16],
+    n: usize,
+) -> usize
+    requires { ⌜ (at + 40 * n ≤ length (now out)) × (n ≤ 63) × (8 * n ≤ length (now r)) × (n ≤ length (now refusals)) × (n ≤ length (now values)) ⌝ }
+    ensures { λ q. ⌜ Written (now (out .entry)) at (step-texts block (now (r .entry)) (now (refusals .entry)) (now (values .entry)) n 0) (now (out .exit)) q ⌝ }
+{
+    let mut end = at;
+    let mut i: usize = 0;
+    while i < n {
+        let from = 8 * i;
+        end = put_e(out, end, block, i as u32, r[from], refusals[i], values[i]);
+        i += 1;
+    }
+    end
+}
+
+// The state behind a block, and the end of what it printed.
+pub struct BlockRan {
+    pub state: State,
+    pub end: usize,
+}
+
+// A block of single steps: its records played, its `e` lines written from `at` on.
+pub fn play_steps(s: State, place: u32, b: &[u8], out: &mut [u8], at: usize) -> BlockRan
+    requires { ⌜ (sound s ≡ true) × (length (now b) ≡ 512) × (record-count (now b) ≤ 63) × (at + 2520 ≤ length (now out)) ⌝ }
+    ensures { λ q. ⌜ q .state ≡ (steps place 0 s (block-records (now (b .entry)))) .state ⌝ }
+    ensures { λ q. ⌜ Written (now (out .entry)) at (texts ((steps place 0 s (block-records (now (b .entry)))) .lines)) (now (out .exit)) (q .end) ⌝ }
+{
+    let n = b[1] as usize;
+    let r = record_bytes(b);
+    let mut refusals: [u8; 63] = [0; 63];
+    let mut values: [u16; 63] = [0; 63];
+    let state = play(s, r, &mut refusals, &mut values);
+    let end = put_steps(out, at, place, r, &refusals, &values, n);
+    BlockRan { state, end }
+}
+
+// One block of an input: read on, or not; the state behind it; the end of what it printed.
+pub struct BlockRun {
+    pub going: bool,
+    pub state: State,
+    pub end: usize,
+}
+
+pub fn run_block(s: State, place: u32, b: &[u8], out: &mut [u8]) -> BlockRun
+    requires { ⌜ (2520 ≤ length (now out)) × (block-answer place (now b) ≡ BlockAnswer.Steps → sound s ≡ true) ⌝ }
+    ensures { λ q. ⌜ q .going ≡ goes-on (block-answer place (now (b .entry))) ⌝ }
+    ensures { λ q. ⌜ q .state ≡ run-state place s (now (b .entry)) (block-answer place (now (b .entry))) ⌝ }
+    ensures { λ q. ⌜ Written (now (out .entry)) 0 (texts (run-lines place s (now (b .entry)) (block-answer place (now (b .entry))))) (now (out .exit)) (q .end) ⌝ }
+{
+    let answer = block_answer(place, b);
+    match answer {
+        BlockAnswer::Refused(n) => {
+            let end = put_stop(out, 0, place, n);
+            BlockRun {
+                going: false,
+                state: s,
+                end,
+            }
+        }
+        BlockAnswer::Network => {
+            let t = table_of(b);
+            let state = empty(t);
+            let end = put_net(out, 0, t.buses, t.bridges, t.agents);
+            BlockRun {
+                going: true,
+                state,
+                end,
+            }
+        }
+        BlockAnswer::Steps => {
+            let r = play_steps(s, place, b, out, 0);
+            let state = r.state;
+            BlockRun {
+                going: true,
+                state,
+                end: r.end,
+            }
+        }
+        BlockAnswer::Tick => BlockRun {
+            going: false,
+            state: s,
+            end: 0,
+        },
+    }
+}
+
+// The entries left in all channels.
+pub fn entries_left(s: State) -> u32
+    requires { ⌜ sound s ≡ true ⌝ }
+    ensures { λ r. ⌜ r ≡ entries-left (s .channels) ⌝ }
+{
+    let mut sum: u32 = 0;
+    let mut i: usize = 0;
+    while i < 62 {
+        let c = s.channels[i];
+        let n = c.count as u32;
+        sum += n;
+        i += 1;
+    }
+    sum
+}

@@ -1,0 +1,85 @@
+-- A bridge has one bus at both its ends.
+-- What is left to test, tested from here, is the whole: `any-stop`, `any-on` and `any-over`.
+use Prim.Native.Nat.{_-_, _≤_}
+use mathlib.Core.Path.{_≡_, refl, sym, _∙_}
+use native.Mathlib.Omega.{arith}
+use borrow.Author.Needs.{needs}
+use lib.ListN.{length}
+use lib.Seq.{slice}
+use Rattle.base.specs.Lists.{any}
+use Rattle.base.proofs.Cases.{cases}
+use Rattle.base.proofs.Walks.{owned}
+use Rattle.base.proofs.Loops.{any-stop, any-on, any-over}
+use Rattle.chassis.specs.Channels.{no-bridge}
+use Rattle.chassis.specs.Tables.{is-on-one-bus, bridges-of, a-bridge-on-one-bus}
+use Rattle.chassis.proofs.Counts.{counts}
+use Rattle.chassis.proofs.tables.a_bridge_on_one_bus.Statement.{statement}
+use Rattle.chassis.proofs.tables.a_bridge_on_one_bus.Tie as tie
+
+abbrev Inv-loop : tie.InvT-loop
+Inv-loop t n i₀ i = any is-on-one-bus (slice i (t .bridges) (t .pairs)) ≡ any is-on-one-bus (bridges-of t)
+
+abbrev μ-loop : tie.MeasureT-loop
+μ-loop t n i₀ i = t .bridges - i
+
+cast-n : tie.Need-cast-n Inv-loop μ-loop
+cast-n c = search needs
+
+loop-holds : tie.Need-loop-holds Inv-loop μ-loop
+loop-holds c = refl
+
+mul-is-on-one-bus : tie.Need-mul-is-on-one-bus Inv-loop μ-loop
+mul-is-on-one-bus c = search needs
+
+element-copy-out-is-on-one-bus : tie.Need-element-copy-out-is-on-one-bus Inv-loop μ-loop
+element-copy-out-is-on-one-bus c = omega (arith, counts (c .before .before .args .t1) (c .before .before .pre))
+
+is-on-one-bus-requires : tie.Need-is-on-one-bus-requires Inv-loop μ-loop
+is-on-one-bus-requires c κs = search needs
+
+returns : tie.Need-returns Inv-loop μ-loop
+unfolding a-bridge-on-one-bus
+returns c =
+    let a = c .before .before .before .before .before .args in
+    let l = c .before .before .before .before .loop in
+    let n : length (a .t1 .pairs) ≡ 15 = search owned in
+    let k : a .t1 .bridges ≤ length (a .t1 .pairs) = omega (arith, counts (a .t1) (c .before .before .before .before .before .pre)) in
+    any-stop is-on-one-bus no-bridge (a .t1 .pairs) (a .t1 .bridges) (l .i) (search needs) k (search cases) ∙ l .inv
+
+add-i : tie.Need-add-i Inv-loop μ-loop
+add-i c = search needs
+
+loop-less : tie.Need-loop-less Inv-loop μ-loop
+loop-less c = search needs
+
+loop-again : tie.Need-loop-again Inv-loop μ-loop
+loop-again c =
+    let a = c .before .before .before .before .before .args in
+    let l = c .before .before .before .before .loop in
+    let n : length (a .t1 .pairs) ≡ 15 = search owned in
+    let k : a .t1 .bridges ≤ length (a .t1 .pairs) = omega (arith, counts (a .t1) (c .before .before .before .before .before .pre)) in
+    any-on is-on-one-bus no-bridge (a .t1 .pairs) (a .t1 .bridges) (l .i) (search needs) k (search cases) ∙ l .inv
+
+returns-2 : tie.Need-returns-2 Inv-loop μ-loop
+unfolding a-bridge-on-one-bus
+returns-2 c =
+    let a = c .before .before .args in
+    let l = c .before .loop in
+    sym (any-over is-on-one-bus (l .i) (a .t1 .bridges) (a .t1 .pairs) (search needs)) ∙ l .inv
+
+pub a-bridge-on-one-bus-spec : {M : Type 1} → statement M
+a-bridge-on-one-bus-spec =
+    tie.close
+    (tie.spec
+    Inv-loop
+    μ-loop
+    cast-n
+    loop-holds
+    mul-is-on-one-bus
+    element-copy-out-is-on-one-bus
+    is-on-one-bus-requires
+    returns
+    add-i
+    loop-less
+    loop-again
+    returns-2)

@@ -1,0 +1,40 @@
+use Rattle.network.proofs.Acts.{counted-beyond}
+use mathlib.Core.Path.{_≡_, refl}
+use Rattle.base.proofs.Walks.{owned}
+use Prim.Native.Nat.{_≤_}
+use lib.ListN.{length}
+use native.Mathlib.Omega.{arith}
+use Rattle.network.specs.Acts.{counted}
+use borrow.Author.Needs.{needs}
+use Rattle.network.proofs.State.counted.Statement.{statement}
+use Rattle.network.proofs.State.counted.Tie as tie
+use Rattle.network.proofs.State.counted.Reads as reads
+use Rattle.network.proofs.State.counted.Lts as lts
+
+-- src/lib.rt:53:17
+cast-i : tie.Need-cast-i
+cast-i c = search needs
+
+-- src/lib.rt:55:13
+returns : tie.Need-returns
+unfolding counted
+returns c =
+    let a = c .before .before .args in
+    let l : length (a .t1 .begins) ≡ 32 = search owned in
+    counted-beyond (a .t1) (a .m) (a .n) (omega arith)
+
+-- src/lib.rt:57:9
+mul-self : tie.Need-mul-self
+mul-self c = search needs
+
+-- src/lib.rt:57:9
+element-write-self : tie.Need-element-write-self
+element-write-self c = search needs
+
+-- src/lib.rt:50:5
+returns-2 : tie.Need-returns-2
+unfolding counted
+returns-2 c = refl
+
+pub counted-spec : {M : Type 1} → statement M
+counted-spec = tie.close (tie.spec cast-i returns mul-self element-write-self returns-2)

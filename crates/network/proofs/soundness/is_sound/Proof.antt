@@ -1,0 +1,111 @@
+-- `is_sound` is `sound`, for any declared state.
+-- What is left of the channels, tested from here, is the whole; each return is a law of proofs/Testing.antt.
+use Prim.Native.Nat.{_-_}
+use mathlib.Core.Path.{_≡_, refl, sym, _∙_}
+use mathlib.Core.Bool.{true}
+use native.Mathlib.Omega.{arith}
+use borrow.Author.Needs.{needs}
+use lib.ListN.{length, drop}
+use Rattle.base.specs.Lists.{all-from}
+use Rattle.base.proofs.Cases.{by-call-not, by-call-so}
+use Rattle.base.proofs.Walks.{owned}
+use Rattle.base.proofs.Loops.{cells-stop, cells-on, cells-over}
+use Rattle.chassis.specs.Tables.{table-passes}
+use Rattle.chassis.proofs.Asking.{answered-passes, answered-refused}
+use Rattle.network.specs.Shapes.{no-channel}
+use Rattle.network.specs.Testing.{sound-channel}
+use Rattle.network.proofs.Testing.{bad-table, bad-channel, by-counts}
+use Rattle.network.proofs.soundness.is_sound.Statement.{statement}
+use Rattle.network.proofs.soundness.is_sound.Tie as tie
+
+abbrev Inv-loop : tie.InvT-loop
+Inv-loop s t begins n₀ n =
+    all-from n (sound-channel (s .table) (s .begins)) (drop n (s .channels)) ≡ all-from 0 (sound-channel (s .table) (s .begins)) (s .channels)
+
+abbrev μ-loop : tie.MeasureT-loop
+μ-loop s t begins n₀ n = 62 - n
+
+table-answer-requires : tie.Need-table-answer-requires Inv-loop μ-loop
+table-answer-requires c κs = search needs
+
+enum-known-checked : tie.Need-enum-known-checked Inv-loop μ-loop
+enum-known-checked c = search needs
+
+returns : tie.Need-returns Inv-loop μ-loop
+returns c = bad-table (c .before .before .before .before .before .args .t1) (answered-refused _ (sym (c .before .before .before .table-answer .ensures) ∙ c .before .checked .given .1))
+
+enum-told : tie.Need-enum-told Inv-loop μ-loop
+enum-told c = search needs
+
+-- behind the table's question
+passes : (c : tie.After-enum-told Inv-loop μ-loop) → table-passes (c .before .before .before .before .args .t1 .table) ≡ true
+passes c = answered-passes _ (sym (c .before .before .table-answer .ensures) ∙ c .enum-told .given .1)
+
+loop-holds : tie.Need-loop-holds Inv-loop μ-loop
+loop-holds c = refl
+
+cast-i : tie.Need-cast-i Inv-loop μ-loop
+cast-i c = search needs
+
+mul-c : tie.Need-mul-c Inv-loop μ-loop
+mul-c c = search needs
+
+element-copy-out-c : tie.Need-element-copy-out-c Inv-loop μ-loop
+element-copy-out-c c = search needs
+
+is-sound-channel-requires : tie.Need-is-sound-channel-requires Inv-loop μ-loop
+is-sound-channel-requires c κs = (passes (c .before .before .before .before), omega arith)
+
+returns-2 : tie.Need-returns-2 Inv-loop μ-loop
+returns-2 c =
+    let s = c .before .before .before .before .before .before .before .before .before .before .args .t1 in
+    let l = c .before .before .before .before .loop in
+    let n : length (s .channels) ≡ 62 = search owned in
+    bad-channel s (passes (c .before .before .before .before .before .before))
+    (cells-stop (sound-channel (s .table) (s .begins)) (s .channels) (l .n) no-channel (omega arith) (by-call-so _ _ (c .before .is-sound-channel .ensures) (c .if1 .taken)) ∙ l .inv)
+
+add-n : tie.Need-add-n Inv-loop μ-loop
+add-n c = search needs
+
+loop-less : tie.Need-loop-less Inv-loop μ-loop
+loop-less c = search needs
+
+loop-again : tie.Need-loop-again Inv-loop μ-loop
+loop-again c =
+    let s = c .before .before .before .before .before .before .before .before .before .before .args .t1 in
+    let l = c .before .before .before .before .loop in
+    let n : length (s .channels) ≡ 62 = search owned in
+    cells-on (sound-channel (s .table) (s .begins)) (s .channels) (l .n) no-channel (omega arith) (by-call-not _ _ (c .before .is-sound-channel .ensures) (c .if1 .left)) ∙ l .inv
+
+are-sound-counts-requires : tie.Need-are-sound-counts-requires Inv-loop μ-loop
+are-sound-counts-requires c κs = search needs
+
+returns-3 : tie.Need-returns-3 Inv-loop μ-loop
+returns-3 c =
+    let s = c .before .before .before .before .before .before .before .before .args .t1 in
+    let l = c .before .before .loop in
+    let n : length (s .channels) ≡ 62 = search owned in
+    c .are-sound-counts .ensures
+    ∙ by-counts s (passes (c .before .before .before .before)) (sym (l .inv) ∙ cells-over (sound-channel (s .table) (s .begins)) (s .channels) (l .n) (omega arith))
+
+pub is-sound-spec : {M : Type 1} → statement M
+is-sound-spec =
+    tie.close
+    (tie.spec
+    Inv-loop
+    μ-loop
+    table-answer-requires
+    enum-known-checked
+    returns
+    enum-told
+    loop-holds
+    cast-i
+    mul-c
+    element-copy-out-c
+    is-sound-channel-requires
+    returns-2
+    add-n
+    loop-less
+    loop-again
+    are-sound-counts-requires
+    returns-3)

@@ -1,0 +1,80 @@
+-- `Channel::filling` counts the entries of a kind.
+-- Invariant: what is counted, and the count of what is left, are together the count of all.
+use borrow.Author.Needs.{needs}
+use Prim.Native.Nat.{_+_, _-_, _≤_}
+use native.Mathlib.Omega.{arith}
+use mathlib.Core.Path.{_≡_, sym, _∙_}
+use mathlib.Core.Logic.{⊎-elim}
+use lib.ListN.{drop}
+use Rattle.base.specs.Lists.{count}
+use Rattle.base.proofs.Walks.{owned}
+use Rattle.queue.specs.Queues.{filling}
+use Rattle.queue.specs.Packing.{live}
+use Rattle.queue.proofs.Turns.{on, over}
+use Rattle.queue.proofs.Channel.filling.Statement.{statement}
+use Rattle.queue.proofs.Channel.filling.Tie as tie
+
+abbrev Inv-loop : tie.InvT-loop
+Inv-loop kind self n k₀ i₀ k i = (k ≤ i) × (k + filling kind (drop i (live self)) ≡ filling kind (live self))
+
+abbrev μ-loop : tie.MeasureT-loop
+μ-loop kind self n k₀ i₀ k i = n - i
+
+places-requires : tie.Need-places-requires Inv-loop μ-loop
+places-requires c κs = search needs
+
+loop-holds : tie.Need-loop-holds Inv-loop μ-loop
+loop-holds c = search needs
+
+mul-x : tie.Need-mul-x Inv-loop μ-loop
+mul-x c = search needs
+
+element-copy-out-x : tie.Need-element-copy-out-x Inv-loop μ-loop
+element-copy-out-x c = search needs
+
+is-kind-requires : tie.Need-is-kind-requires Inv-loop μ-loop
+is-kind-requires c κs = search needs
+
+add-k : tie.Need-add-k Inv-loop μ-loop
+add-k c = search needs
+
+add-i : tie.Need-add-i Inv-loop μ-loop
+add-i c = search needs
+
+loop-less : tie.Need-loop-less Inv-loop μ-loop
+loop-less c = search needs
+
+loop-again : tie.Need-loop-again Inv-loop μ-loop
+unfolding filling count
+loop-again c =
+    let a = c .before .before .before .before .before .before .args .t1 in
+    let l = c .before .before .before .before .loop in
+    let turn = rw (on a (l .i) (search owned) (omega arith)) at (l .inv .1) in
+    ⊎-elim
+    (λ w. (omega (arith, w .1), omega (arith, w .1, rw (sym (c .before .is-kind .ensures) ∙ w .0 .taken) at turn)))
+    (λ w. (omega (arith, w .1), omega (arith, w .1, rw (sym (c .before .is-kind .ensures) ∙ w .0 .left) at turn)))
+    (c .if1 .came)
+
+returns : tie.Need-returns Inv-loop μ-loop
+unfolding filling count
+returns c =
+    let a = c .before .before .before .args .t1 in
+    let l = c .before .loop in
+    omega (arith, rw (over a (l .i) (search owned) (omega arith)) at (l .inv .1))
+
+pub filling-spec : {M : Type 1} → statement M
+filling-spec =
+    tie.close
+    (tie.spec
+    Inv-loop
+    μ-loop
+    places-requires
+    loop-holds
+    mul-x
+    element-copy-out-x
+    is-kind-requires
+    add-k
+    add-i
+    loop-less
+    loop-again
+    returns)
