@@ -1,3 +1,5 @@
+-- `main` ends, and asks of the library only what it may.
+-- The idea: from the first table on the state is sound, and block 65,536 is refused.
 use Rattle.blocks.proofs.Texts.{written-length}
 use Rattle.blocks.proofs.Running.{steps-later, run-right}
 use Rattle.blocks.specs.declared.BlockAnswer.the-variants.{Steps}
@@ -10,15 +12,6 @@ use Prim.Native.Nat.{_≤_, _-_}
 use borrow.Author.Needs.{needs}
 use Rattle.pcibus.proofs.main.Statement.{statement}
 use Rattle.pcibus.proofs.main.Tie as tie
-use Rattle.pcibus.proofs.main.Reads as reads
-use Rattle.pcibus.proofs.main.Lts as lts
-use Rattle.blocks.proofs.lines.put_end.Reads as put-end-reads
-use Rattle.blocks.proofs.plays.entries_left.Reads as entries-left-reads
-use Rattle.blocks.proofs.plays.run_block.Reads as run-block-reads
-use Rattle.io.proofs.read_full.Reads as read-full-reads
-use Rattle.io.proofs.write_all.Reads as write-all-reads
-use Rattle.network.proofs.zero.Reads as zero-reads
-use Rattle.pcibus.proofs.within.Reads as within-reads
 
 abbrev Inv-loop : tie.InvT-loop
 Inv-loop block₀ out₀ state₀ place₀ block out state place =
@@ -27,43 +20,33 @@ Inv-loop block₀ out₀ state₀ place₀ block out state place =
 abbrev μ-loop : tie.MeasureT-loop
 μ-loop block₀ out₀ state₀ place₀ block out state place = 65537 - place
 
--- src/main.rt:21:9
 zero-requires : tie.Need-zero-requires Inv-loop μ-loop
 zero-requires c κs = search needs
 
--- src/main.rt:24:5
 loop-holds : tie.Need-loop-holds Inv-loop μ-loop
 loop-holds c = (omega arith, λ n. absurd (n refl), search needs, search needs)
 
--- src/main.rt:25:36
 slice-aggregate-read-full : tie.Need-slice-aggregate-read-full Inv-loop μ-loop
 slice-aggregate-read-full c = search needs
 
--- src/main.rt:25:13
 read-full-requires : tie.Need-read-full-requires Inv-loop μ-loop
 read-full-requires c κs = search needs
 
--- src/main.rt:28:42
 slice-aggregate-put-end : tie.Need-slice-aggregate-put-end Inv-loop μ-loop
 slice-aggregate-put-end c = search needs
 
--- src/main.rt:28:55
 entries-left-requires : tie.Need-entries-left-requires Inv-loop μ-loop
 entries-left-requires c κs = c .before .before .before .before .before .before .before .loop .inv .1 (c .before .if2 .taken) .is-sound
 
--- src/main.rt:28:34
 put-end-requires : tie.Need-put-end-requires Inv-loop μ-loop
 put-end-requires c κs = search needs
 
--- src/main.rt:28:21
 within-requires : tie.Need-within-requires Inv-loop μ-loop
 within-requires c κs = search needs
 
--- src/main.rt:29:43
 array-share-prefix-out : tie.Need-array-share-prefix-out Inv-loop μ-loop
 array-share-prefix-out c = search needs
 
--- src/main.rt:29:43
 slice-aggregate-write-all : tie.Need-slice-aggregate-write-all Inv-loop μ-loop
 slice-aggregate-write-all c =
     let h = written-length (c .before .before .before .put-end .ensures) in
@@ -71,39 +54,30 @@ slice-aggregate-write-all c =
     let l = c .before .before .before .before .before .before .before .before .before .before .before .before .loop .inv .3 in
     simp length-take (omega arith)
 
--- src/main.rt:29:21
 write-all-requires : tie.Need-write-all-requires Inv-loop μ-loop
 write-all-requires c κs = search needs
 
--- src/main.rt:30:17
 returns : tie.Need-returns Inv-loop μ-loop
 returns c = search needs
 
--- src/main.rt:33:41
 array-share-prefix-block : tie.Need-array-share-prefix-block Inv-loop μ-loop
 array-share-prefix-block c = search needs
 
--- src/main.rt:33:41
 slice-aggregate-run-block : tie.Need-slice-aggregate-run-block Inv-loop μ-loop
 slice-aggregate-run-block c = search needs
 
--- src/main.rt:33:56
 slice-aggregate-run-block-2 : tie.Need-slice-aggregate-run-block-2 Inv-loop μ-loop
 slice-aggregate-run-block-2 c = search needs
 
--- src/main.rt:33:13
 run-block-requires : tie.Need-run-block-requires Inv-loop μ-loop
 run-block-requires c κs = (search needs, λ e. c .before .before .before .before .before .before .before .loop .inv .1 (steps-later (c .before .before .before .before .before .before .before .loop .place) _ e) .is-sound)
 
--- src/main.rt:34:13
 within-requires-2 : tie.Need-within-requires-2 Inv-loop μ-loop
 within-requires-2 c κs = search needs
 
--- src/main.rt:35:35
 array-share-prefix-out-2 : tie.Need-array-share-prefix-out-2 Inv-loop μ-loop
 array-share-prefix-out-2 c = search needs
 
--- src/main.rt:35:35
 slice-aggregate-write-all-2 : tie.Need-slice-aggregate-write-all-2 Inv-loop μ-loop
 slice-aggregate-write-all-2 c =
     let h = written-length (c .before .before .before .run-block .ensures .1 .1) in
@@ -111,23 +85,18 @@ slice-aggregate-write-all-2 c =
     let l = c .before .before .before .before .before .before .before .before .before .before .before .loop .inv .3 in
     simp length-take (omega arith)
 
--- src/main.rt:35:13
 write-all-requires-2 : tie.Need-write-all-requires-2 Inv-loop μ-loop
 write-all-requires-2 c κs = search needs
 
--- src/main.rt:37:13
 returns-2 : tie.Need-returns-2 Inv-loop μ-loop
 returns-2 c = search needs
 
--- src/main.rt:41:9
 add-place : tie.Need-add-place Inv-loop μ-loop
 add-place c = search needs
 
--- src/main.rt:24:5
 loop-less : tie.Need-loop-less Inv-loop μ-loop
 loop-less c = search needs
 
--- src/main.rt:24:5
 loop-again : tie.Need-loop-again Inv-loop μ-loop
 loop-again c =
     let l = c .before .before .before .before .before .before .before .before .before .before .before .before .before .before .before .loop in
@@ -139,7 +108,6 @@ loop-again c =
       search needs,
     )
 
--- src/main.rt:18:1
 returns-3 : tie.Need-returns-3 Inv-loop μ-loop
 returns-3 c = search needs
 

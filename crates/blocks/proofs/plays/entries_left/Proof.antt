@@ -1,3 +1,5 @@
+-- `entries_left` counts the entries left in all channels.
+-- The idea: what is left to count, counted behind what is done, makes up all.
 use Rattle.blocks.proofs.Running.{left-turn, none-left}
 use Rattle.blocks.specs.Logs.{entries-left}
 use Rattle.network.proofs.Packing.{sound-opened}
@@ -9,8 +11,6 @@ use Prim.Native.Nat.{_≤_, _+_, _-_, _*_}
 use borrow.Author.Needs.{needs}
 use Rattle.blocks.proofs.plays.entries_left.Statement.{statement}
 use Rattle.blocks.proofs.plays.entries_left.Tie as tie
-use Rattle.blocks.proofs.plays.entries_left.Reads as reads
-use Rattle.blocks.proofs.plays.entries_left.Lts as lts
 
 abbrev Inv-loop : tie.InvT-loop
 Inv-loop s sum₀ i₀ sum i = (i ≤ 62) × (sum ≤ 24 * i) × (sum + entries-left (drop i (s .channels)) ≡ entries-left (s .channels))
@@ -18,35 +18,27 @@ Inv-loop s sum₀ i₀ sum i = (i ≤ 62) × (sum ≤ 24 * i) × (sum + entries-
 abbrev μ-loop : tie.MeasureT-loop
 μ-loop s sum₀ i₀ sum i = 62 - i
 
--- src/plays.rt:110:5
 loop-holds : tie.Need-loop-holds Inv-loop μ-loop
 loop-holds c = (omega arith, omega arith, omega arith)
 
--- src/plays.rt:111:17
 mul-c : tie.Need-mul-c Inv-loop μ-loop
 mul-c c = search owned
 
--- src/plays.rt:111:17
 element-copy-out-c : tie.Need-element-copy-out-c Inv-loop μ-loop
 element-copy-out-c c = search owned
 
--- src/plays.rt:112:17
 cast-n : tie.Need-cast-n Inv-loop μ-loop
 cast-n c = let f = sound-opened (c .before .before .before .before .args .t1) (c .before .before .before .before .pre) .fitting (c .before .before .before .loop .i) in omega arith
 
--- src/plays.rt:113:9
 add-sum : tie.Need-add-sum Inv-loop μ-loop
 add-sum c = let f = sound-opened (c .before .before .before .before .args .t1) (c .before .before .before .before .pre) .fitting (c .before .before .before .loop .i) in let h = c .before .before .before .loop .inv in omega arith
 
--- src/plays.rt:114:9
 add-i : tie.Need-add-i Inv-loop μ-loop
 add-i c = search owned
 
--- src/plays.rt:110:5
 loop-less : tie.Need-loop-less Inv-loop μ-loop
 loop-less c = search owned
 
--- src/plays.rt:110:5
 loop-again : tie.Need-loop-again Inv-loop μ-loop
 loop-again c =
     let l = c .before .before .before .loop in
@@ -57,7 +49,6 @@ loop-again c =
     let e = left-turn (s .channels) (l .i) (omega arith) in
     (omega arith, omega arith, omega arith)
 
--- src/plays.rt:104:1
 returns : tie.Need-returns Inv-loop μ-loop
 returns c =
     let l = c .before .loop in

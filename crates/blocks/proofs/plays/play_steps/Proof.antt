@@ -1,3 +1,5 @@
+-- `play_steps` plays a block of single steps and prints its lines.
+-- The idea: what `play` leaves in the two lists is what the definition prints (`block-stepped`).
 use Rattle.events.proofs.SoundStays.{Right}
 use Rattle.blocks.proofs.Stepping.{block-stepped}
 use Rattle.blocks.proofs.Accepted.{length-record-bytes}
@@ -8,33 +10,22 @@ use native.Mathlib.Omega.{arith}
 use borrow.Author.Needs.{needs}
 use Rattle.blocks.proofs.plays.play_steps.Statement.{statement}
 use Rattle.blocks.proofs.plays.play_steps.Tie as tie
-use Rattle.blocks.proofs.plays.play_steps.Reads as reads
-use Rattle.blocks.proofs.plays.play_steps.Lts as lts
-use Rattle.blocks.proofs.frames.record_bytes.Reads as record-bytes-reads
-use Rattle.blocks.proofs.plays.put_steps.Reads as put-steps-reads
-use Rattle.events.proofs.plays.play.Reads as play-reads
 
--- src/plays.rt:44:13
 shared-slice-read-n : tie.Need-shared-slice-read-n
 shared-slice-read-n c = search needs
 
--- src/plays.rt:44:13
 cast-n : tie.Need-cast-n
 cast-n c = search needs
 
--- src/plays.rt:45:9
 record-bytes-requires : tie.Need-record-bytes-requires
 record-bytes-requires c κs = search needs
 
--- src/plays.rt:48:28
 slice-aggregate-play : tie.Need-slice-aggregate-play
 slice-aggregate-play c = search needs
 
--- src/plays.rt:48:43
 slice-aggregate-play-2 : tie.Need-slice-aggregate-play-2
 slice-aggregate-play-2 c = search needs
 
--- src/plays.rt:48:9
 play-requires : tie.Need-play-requires
 play-requires c κs =
     let st = c .before .before .before .before .before .before in
@@ -42,15 +33,12 @@ play-requires c κs =
     let l = length-record-bytes (st .args .b .now) (st .pre .1) (st .pre .2) in
     (st .pre .0, omega arith, omega arith)
 
--- src/plays.rt:49:44
 slice-aggregate-put-steps : tie.Need-slice-aggregate-put-steps
 slice-aggregate-put-steps c = search needs
 
--- src/plays.rt:49:55
 slice-aggregate-put-steps-2 : tie.Need-slice-aggregate-put-steps-2
 slice-aggregate-put-steps-2 c = search needs
 
--- src/plays.rt:49:9
 put-steps-requires : tie.Need-put-steps-requires
 put-steps-requires c κs =
     let st = c .before .before .before .before .before .before .before .before .before .before .before .before in
@@ -60,11 +48,9 @@ put-steps-requires c κs =
     let q = st .pre .3 in
     (search needs, search needs, omega arith, search needs, search needs)
 
--- src/plays.rt:39:1
 same-length : tie.Need-same-length
 same-length c = search needs
 
--- src/plays.rt:39:1
 returns : tie.Need-returns
 returns c =
     let st = c .before .before .before .before .before .before .before .before .before .before .before .before .before .before .before in

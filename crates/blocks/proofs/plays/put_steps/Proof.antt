@@ -1,3 +1,5 @@
+-- `put_steps` writes one line for each record.
+-- The idea: what is left of the lines, written behind what is done, makes up all of them.
 use mathlib.Core.Path.{_≡_, subst}
 use Rattle.blocks.proofs.Stepping.{texts-turn, texts-over}
 use Rattle.blocks.proofs.Texts.{ToWrite, to-write-all, to-write-on, to-write-none, to-write-length, line-short}
@@ -9,9 +11,6 @@ use Prim.Native.Nat.{ℕ, suc, _≤_, _<_, _+_, _-_, _*_}
 use borrow.Author.Needs.{needs}
 use Rattle.blocks.proofs.plays.put_steps.Statement.{statement}
 use Rattle.blocks.proofs.plays.put_steps.Tie as tie
-use Rattle.blocks.proofs.plays.put_steps.Reads as reads
-use Rattle.blocks.proofs.plays.put_steps.Lts as lts
-use Rattle.blocks.proofs.lines.put_e.Reads as put-e-reads
 
 abbrev Inv-loop : tie.InvT-loop
 Inv-loop out₀ at block r refusals values n end₀ i₀ out end i =
@@ -20,7 +19,6 @@ Inv-loop out₀ at block r refusals values n end₀ i₀ out end i =
 abbrev μ-loop : tie.MeasureT-loop
 μ-loop out₀ at block r refusals values n end₀ i₀ out end i = n - i
 
--- src/plays.rt:25:5
 loop-holds : tie.Need-loop-holds Inv-loop μ-loop
 loop-holds c =
     let a = c .before .before .before .before .args in
@@ -30,31 +28,24 @@ loop-holds c =
       subst (λ (m : ℕ). ToWrite (a .out .now) (a .at) (step-texts (a .block) (a .r .now) (a .refusals .now) (a .values .now) (a .n) 0) (a .out .now) (a .at) (step-texts (a .block) (a .r .now) (a .refusals .now) (a .values .now) m 0)) k (to-write-all (a .out .now) (a .at) (step-texts (a .block) (a .r .now) (a .refusals .now) (a .values .now) (a .n) 0)),
     )
 
--- src/plays.rt:26:20
 mul-from : tie.Need-mul-from Inv-loop μ-loop
 mul-from c = search needs
 
--- src/plays.rt:27:38
 cast-put-e : tie.Need-cast-put-e Inv-loop μ-loop
 cast-put-e c = search needs
 
--- src/plays.rt:27:48
 shared-slice-read-put-e : tie.Need-shared-slice-read-put-e Inv-loop μ-loop
 shared-slice-read-put-e c = search needs
 
--- src/plays.rt:27:57
 shared-slice-read-put-e-2 : tie.Need-shared-slice-read-put-e-2 Inv-loop μ-loop
 shared-slice-read-put-e-2 c = search needs
 
--- src/plays.rt:27:70
 mul-put-e : tie.Need-mul-put-e Inv-loop μ-loop
 mul-put-e c = search needs
 
--- src/plays.rt:27:70
 shared-slice-read-put-e-3 : tie.Need-shared-slice-read-put-e-3 Inv-loop μ-loop
 shared-slice-read-put-e-3 c = search needs
 
--- src/plays.rt:27:9
 put-e-requires : tie.Need-put-e-requires Inv-loop μ-loop
 put-e-requires c κs =
     let l = c .before .before .before .before .before .loop in
@@ -62,15 +53,12 @@ put-e-requires c κs =
     let p = c .before .before .before .before .before .before .before .before .before .before .pre .0 in
     omega (arith, to-write-length (l .inv .2))
 
--- src/plays.rt:28:9
 add-i : tie.Need-add-i Inv-loop μ-loop
 add-i c = search needs
 
--- src/plays.rt:25:5
 loop-less : tie.Need-loop-less Inv-loop μ-loop
 loop-less c = search needs
 
--- src/plays.rt:25:5
 loop-again : tie.Need-loop-again Inv-loop μ-loop
 loop-again c =
     let l = c .before .before .before .before .before .before .before .before .loop in
@@ -81,11 +69,9 @@ loop-again c =
     let h = line-short (e (a .block) (l .i) (getD (a .r .now) (8 * l .i) 0) (getD (a .refusals .now) (l .i) 0) (getD (a .values .now) (l .i) 0)) (omega arith, omega arith, omega (arith, c .before .before .before .before .before .shared-slice-known4 .given (8 * l .i)), omega (arith, c .before .before .before .before .shared-slice-known5 .given (l .i)), omega (arith, c .before .before .before .shared-slice-known6 .given (l .i))) in
     (omega arith, omega arith, to-write-on (rw (texts-turn (a .block) (a .r .now) (a .refusals .now) (a .values .now) (a .n) (l .i) (omega arith)) at (l .inv .2)) w)
 
--- src/plays.rt:19:1
 same-length : tie.Need-same-length Inv-loop μ-loop
 same-length c = to-write-length (c .before .loop .inv .2)
 
--- src/plays.rt:19:1
 returns : tie.Need-returns Inv-loop μ-loop
 returns c =
     let l = c .before .loop in

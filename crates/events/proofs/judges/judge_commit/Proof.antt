@@ -1,55 +1,40 @@
+-- `judge_commit` gives the verdict of its definition.
+-- The idea: each early return is a ground, in the kind's own order; the last return is what is to be done.
 use Rattle.base.proofs.Cases.{cases}
 use borrow.Author.Needs.{needs}
 use Rattle.events.proofs.judges.judge_commit.Statement.{statement}
 use Rattle.events.proofs.judges.judge_commit.Tie as tie
-use Rattle.events.proofs.judges.judge_commit.Reads as reads
-use Rattle.events.proofs.judges.judge_commit.Lts as lts
-use Rattle.events.proofs.judges.done.Reads as done-reads
-use Rattle.events.proofs.judges.marks.Reads as marks-reads
-use Rattle.events.proofs.judges.no_act.Reads as no-act-reads
-use Rattle.events.proofs.judges.refused_plan.Reads as refused-plan-reads
 
--- src/judges.rt:92:9
 refused-plan-requires : tie.Need-refused-plan-requires
 refused-plan-requires c κs = search needs
 
--- src/judges.rt:92:9
 returns : tie.Need-returns
 returns c = simp (c .refused-plan .ensures) (search cases depth 30)
 
--- src/judges.rt:95:9
 refused-plan-requires-2 : tie.Need-refused-plan-requires-2
 refused-plan-requires-2 c κs = search needs
 
--- src/judges.rt:95:9
 returns-2 : tie.Need-returns-2
 returns-2 c = simp (c .refused-plan2 .ensures) (search cases depth 30)
 
--- src/judges.rt:98:9
 refused-plan-requires-3 : tie.Need-refused-plan-requires-3
 refused-plan-requires-3 c κs = search needs
 
--- src/judges.rt:98:9
 returns-3 : tie.Need-returns-3
 returns-3 c = simp (c .refused-plan3 .ensures) (search cases depth 30)
 
--- src/judges.rt:100:10
 marks-requires : tie.Need-marks-requires
 marks-requires c κs = search needs
 
--- src/judges.rt:100:23
 no-act-requires : tie.Need-no-act-requires
 no-act-requires c κs = search needs
 
--- src/judges.rt:100:33
 no-act-requires-2 : tie.Need-no-act-requires-2
 no-act-requires-2 c κs = search needs
 
--- src/judges.rt:100:5
 done-requires : tie.Need-done-requires
 done-requires c κs = search needs
 
--- src/judges.rt:87:1
 returns-4 : tie.Need-returns-4
 returns-4 c = simp (c .done .ensures, c .before .no-act2 .ensures, c .before .before .no-act .ensures, c .before .before .before .marks .ensures) (search cases depth 30)
 

@@ -1,69 +1,49 @@
+-- `judge_latch_on` gives the verdict of its definition.
+-- The idea: each early return is a ground, in the kind's own order; the last return is what is to be done.
 use Rattle.base.proofs.Cases.{cases}
 use borrow.Author.Needs.{needs}
 use Rattle.events.proofs.judges.judge_latch_on.Statement.{statement}
 use Rattle.events.proofs.judges.judge_latch_on.Tie as tie
-use Rattle.events.proofs.judges.judge_latch_on.Reads as reads
-use Rattle.events.proofs.judges.judge_latch_on.Lts as lts
-use Rattle.events.proofs.judges.adds.Reads as adds-reads
-use Rattle.events.proofs.judges.done.Reads as done-reads
-use Rattle.events.proofs.judges.marks.Reads as marks-reads
-use Rattle.events.proofs.judges.no_act.Reads as no-act-reads
-use Rattle.events.proofs.judges.refused_plan.Reads as refused-plan-reads
-use Rattle.queue.proofs.Entry.as_kind.Reads as as-kind-reads
 
--- src/judges.rt:137:9
 refused-plan-requires : tie.Need-refused-plan-requires
 refused-plan-requires c κs = search needs
 
--- src/judges.rt:137:9
 returns : tie.Need-returns
 returns c = simp (c .refused-plan .ensures) (search cases depth 30)
 
--- src/judges.rt:140:9
 refused-plan-requires-2 : tie.Need-refused-plan-requires-2
 refused-plan-requires-2 c κs = search needs
 
--- src/judges.rt:140:9
 returns-2 : tie.Need-returns-2
 returns-2 c = simp (c .refused-plan2 .ensures) (search cases depth 30)
 
--- src/judges.rt:143:9
 refused-plan-requires-3 : tie.Need-refused-plan-requires-3
 refused-plan-requires-3 c κs = search needs
 
--- src/judges.rt:143:9
 returns-3 : tie.Need-returns-3
 returns-3 c = simp (c .refused-plan3 .ensures) (search cases depth 30)
 
--- src/judges.rt:146:9
 refused-plan-requires-4 : tie.Need-refused-plan-requires-4
 refused-plan-requires-4 c κs = search needs
 
--- src/judges.rt:146:9
 returns-4 : tie.Need-returns-4
 returns-4 c = simp (c .refused-plan4 .ensures) (search cases depth 30)
 
--- src/judges.rt:148:10
 marks-requires : tie.Need-marks-requires
 marks-requires c κs = search needs
 
--- src/judges.rt:148:35
 as-kind-requires : tie.Need-as-kind-requires
 as-kind-requires c κs = search needs
 
--- src/judges.rt:148:23
 adds-requires : tie.Need-adds-requires
 adds-requires c κs = search needs
 
--- src/judges.rt:148:50
 no-act-requires : tie.Need-no-act-requires
 no-act-requires c κs = search needs
 
--- src/judges.rt:148:5
 done-requires : tie.Need-done-requires
 done-requires c κs = search needs
 
--- src/judges.rt:131:1
 returns-5 : tie.Need-returns-5
 returns-5 c = simp (c .done .ensures, c .before .no-act .ensures, c .before .before .adds .ensures, c .before .before .before .as-kind .ensures, c .before .before .before .before .marks .ensures) (search cases depth 30)
 

@@ -1,56 +1,40 @@
+-- `judge_post` gives the verdict of its definition.
+-- The idea: each early return is a ground, in the kind's own order; the last return is what is to be done.
 use Rattle.base.proofs.Cases.{cases}
 use borrow.Author.Needs.{needs}
 use Rattle.events.proofs.judges.judge_post.Statement.{statement}
 use Rattle.events.proofs.judges.judge_post.Tie as tie
-use Rattle.events.proofs.judges.judge_post.Reads as reads
-use Rattle.events.proofs.judges.judge_post.Lts as lts
-use Rattle.events.proofs.judges.done.Reads as done-reads
-use Rattle.events.proofs.judges.enters.Reads as enters-reads
-use Rattle.events.proofs.judges.no_act.Reads as no-act-reads
-use Rattle.events.proofs.judges.refused_plan.Reads as refused-plan-reads
-use Rattle.events.proofs.judges.takes_out.Reads as takes-out-reads
 
--- src/judges.rt:119:9
 refused-plan-requires : tie.Need-refused-plan-requires
 refused-plan-requires c κs = search needs
 
--- src/judges.rt:119:9
 returns : tie.Need-returns
 returns c = simp (c .refused-plan .ensures) (search cases depth 30)
 
--- src/judges.rt:122:9
 refused-plan-requires-2 : tie.Need-refused-plan-requires-2
 refused-plan-requires-2 c κs = search needs
 
--- src/judges.rt:122:9
 returns-2 : tie.Need-returns-2
 returns-2 c = simp (c .refused-plan2 .ensures) (search cases depth 30)
 
--- src/judges.rt:125:9
 refused-plan-requires-3 : tie.Need-refused-plan-requires-3
 refused-plan-requires-3 c κs = search needs
 
--- src/judges.rt:125:9
 returns-3 : tie.Need-returns-3
 returns-3 c = simp (c .refused-plan3 .ensures) (search cases depth 30)
 
--- src/judges.rt:127:10
 takes-out-requires : tie.Need-takes-out-requires
 takes-out-requires c κs = search needs
 
--- src/judges.rt:127:27
 enters-requires : tie.Need-enters-requires
 enters-requires c κs = search needs
 
--- src/judges.rt:127:44
 no-act-requires : tie.Need-no-act-requires
 no-act-requires c κs = search needs
 
--- src/judges.rt:127:5
 done-requires : tie.Need-done-requires
 done-requires c κs = search needs
 
--- src/judges.rt:114:1
 returns-4 : tie.Need-returns-4
 returns-4 c = simp (c .done .ensures, c .before .no-act .ensures, c .before .before .enters .ensures, c .before .before .before .takes-out .ensures) (search cases depth 30)
 

@@ -1,16 +1,13 @@
+-- `refused_plan` gives the verdict of its definition.
+-- The idea: each early return is a ground, in the kind's own order; the last return is what is to be done.
 use Rattle.base.proofs.Cases.{cases}
 use borrow.Author.Needs.{needs}
 use Rattle.events.proofs.judges.refused_plan.Statement.{statement}
 use Rattle.events.proofs.judges.refused_plan.Tie as tie
-use Rattle.events.proofs.judges.refused_plan.Reads as reads
-use Rattle.events.proofs.judges.refused_plan.Lts as lts
-use Rattle.events.proofs.judges.no_act.Reads as no-act-reads
 
--- src/judges.rt:34:9
 no-act-requires : tie.Need-no-act-requires
 no-act-requires c κs = search needs
 
--- src/judges.rt:31:1
 returns : tie.Need-returns
 returns c = simp (c .no-act .ensures) (search cases depth 30)
 

@@ -1,3 +1,5 @@
+-- `play` plays records one by one: state, refusals and values are those of the definition.
+-- The idea: what is left to do, done from here, is the whole (`Playing`); a turn reads what the state shows, so its plan is the record's own, and stores what the step stores.
 use lib.ListN.{length, getD, take, drop, set, length-set}
 use mathlib.Core.Bool.{true, cond}
 use Rattle.events.specs.declared.Plan.{Plan}
@@ -27,21 +29,6 @@ use Prim.Native.Nat.{_≤_, _<_, _+_, _-_, _*_}
 use borrow.Author.Needs.{needs}
 use Rattle.events.proofs.plays.play.Statement.{statement}
 use Rattle.events.proofs.plays.play.Tie as tie
-use Rattle.events.proofs.plays.play.Reads as reads
-use Rattle.events.proofs.plays.play.Lts as lts
-use Rattle.events.proofs.frames.kind_named.Reads as kind-named-reads
-use Rattle.events.proofs.frames.record_frame.Reads as record-frame-reads
-use Rattle.events.proofs.frames.transaction_named.Reads as transaction-named-reads
-use Rattle.events.proofs.judges.judge.Reads as judge-reads
-use Rattle.events.proofs.plays.next_of.Reads as next-of-reads
-use Rattle.events.proofs.plays.raised.Reads as raised-reads
-use Rattle.events.proofs.records.decode.Reads as decode-reads
-use Rattle.events.proofs.sights.ahead_or.Reads as ahead-or-reads
-use Rattle.events.proofs.sights.answer_or.Reads as answer-or-reads
-use Rattle.events.proofs.sights.back_or.Reads as back-or-reads
-use Rattle.events.proofs.sights.sight_of.Reads as sight-of-reads
-use Rattle.queue.proofs.Channel.changed.Reads as changed-reads
-use Rattle.queue.proofs.Channel.looked.Reads as looked-reads
 
 abbrev Inv-loop : tie.InvT-loop
 Inv-loop r refusals₀ values₀ state₀ n i₀ refusals values state i =
@@ -104,68 +91,53 @@ state-is : (c : tie.After-raised Inv-loop μ-loop) → _≡_ {A = State}
 unfolding acted-on counted
 state-is c = rw (c .raised .ensures, c .before .changed3 .ensures, c .before .before .before .before .changed2 .ensures, c .before .before .before .before .before .before .before .changed .ensures)
 
--- src/plays.rt:69:5
 loop-holds : tie.Need-loop-holds Inv-loop μ-loop
 loop-holds c =
     let s = c .before .before .before in
     (at-first (s .args .r .now) (s .args .refusals .now) (s .args .values .now) (s .args .s) _ refl (record { shaped = of-type (s .args .s) _ (s .good .0); is-sound = s .pre .0 }), s .pre .1, s .pre .2)
 
--- src/plays.rt:70:20
 mul-from : tie.Need-mul-from Inv-loop μ-loop
 mul-from c = search owned
 
--- src/plays.rt:71:18
 add-to : tie.Need-add-to Inv-loop μ-loop
 add-to c = search owned
 
--- src/plays.rt:72:24
 sub-decode : tie.Need-sub-decode Inv-loop μ-loop
 sub-decode c = search owned
 
--- src/plays.rt:72:24
 part-decode-start : tie.Need-part-decode-start Inv-loop μ-loop
 part-decode-start c = search owned
 
--- src/plays.rt:72:24
 part-decode-end : tie.Need-part-decode-end Inv-loop μ-loop
 part-decode-end c = search owned
 
--- src/plays.rt:72:13
 decode-requires : tie.Need-decode-requires Inv-loop μ-loop
 decode-requires c κs = search owned
 
--- src/plays.rt:74:13
 record-frame-requires : tie.Need-record-frame-requires Inv-loop μ-loop
 record-frame-requires c κs = search owned
 
--- src/plays.rt:77:21
 cast-place : tie.Need-cast-place Inv-loop μ-loop
 cast-place c = search owned
 
--- src/plays.rt:78:20
 mul-here : tie.Need-mul-here Inv-loop μ-loop
 mul-here c = search owned
 
--- src/plays.rt:78:20
 element-copy-out-here : tie.Need-element-copy-out-here Inv-loop μ-loop
 element-copy-out-here c =
     let l = (right (c .before .before .before .before .before .before)) .shaped .channels in
     let h : ((c .before .before .record-frame .result) .at) .0 < 62 = one-of-62 ((c .before .before .before .before .before .before .before .loop .state) .table) (passes (c .before .before .before .before .before .before)) ((c .before .before .record-frame .result) .at) ((pointed (c .before .before)) .has-at) in
     omega arith
 
--- src/plays.rt:79:29
 kind-named-requires : tie.Need-kind-named-requires Inv-loop μ-loop
 kind-named-requires c κs = search owned
 
--- src/plays.rt:79:44
 transaction-named-requires : tie.Need-transaction-named-requires Inv-loop μ-loop
 transaction-named-requires c κs = search owned
 
--- src/plays.rt:79:13
 looked-requires : tie.Need-looked-requires Inv-loop μ-loop
 looked-requires c κs = search owned
 
--- src/plays.rt:80:13
 next-of-requires : tie.Need-next-of-requires Inv-loop μ-loop
 next-of-requires c κs = (
   (passes (c .before .before .before .before .before .before .before .before .before .before)),
@@ -173,198 +145,159 @@ next-of-requires c κs = (
   λ h. target-is (c .before .before .before .before .before .before .before .before .before .before .before .loop .state) (right (c .before .before .before .before .before .before .before .before .before .before)) ((c .before .before .before .before .before .before .record-frame .result) .at) (kind-named ((c .before .before .before .before .before .before .record-frame .result) .event)) (transaction-named ((c .before .before .before .before .before .before .record-frame .result) .event)) (c .looked .result) (look-is c) h,
 )
 
--- src/plays.rt:81:17
 ahead-or-requires : tie.Need-ahead-or-requires Inv-loop μ-loop
 ahead-or-requires c κs = search owned
 
--- src/plays.rt:81:17
 cast-u : tie.Need-cast-u Inv-loop μ-loop
 cast-u c = search owned
 
--- src/plays.rt:82:17
 answer-or-requires : tie.Need-answer-or-requires Inv-loop μ-loop
 answer-or-requires c κs = onward-small ((c .before .before .before .before .before .before .before .before .before .before .before .before .before .before .loop .state) .table) (passes (c .before .before .before .before .before .before .before .before .before .before .before .before .before)) (c .before .before .next-of .result) (onward (c .before .before))
 
--- src/plays.rt:82:17
 cast-v : tie.Need-cast-v Inv-loop μ-loop
 cast-v c = search owned
 
--- src/plays.rt:83:17
 back-or-requires : tie.Need-back-or-requires Inv-loop μ-loop
 back-or-requires c κs = let h = (at-62 (c .before .before .before .before .before .before .before .before .before .before .before)) in omega arith
 
--- src/plays.rt:83:17
 cast-w : tie.Need-cast-w Inv-loop μ-loop
 cast-w c = search owned
 
--- src/plays.rt:84:21
 mul-ahead : tie.Need-mul-ahead Inv-loop μ-loop
 mul-ahead c = search owned
 
--- src/plays.rt:84:21
 element-copy-out-ahead : tie.Need-element-copy-out-ahead Inv-loop μ-loop
 element-copy-out-ahead c =
     let l = (right (c .before .before .before .before .before .before .before .before .before .before .before .before .before .before .before .before .before)) .shaped .channels in
     let h : (c .before .before .before .before .before .ahead-or .result) .0 < 62 = one-of-62 ((c .before .before .before .before .before .before .before .before .before .before .before .before .before .before .before .before .before .before .loop .state) .table) (passes (c .before .before .before .before .before .before .before .before .before .before .before .before .before .before .before .before .before)) (c .before .before .before .before .before .ahead-or .result) (subst (λ (x : Chan). has-chan ((c .before .before .before .before .before .before .before .before .before .before .before .before .before .before .before .before .before .before .loop .state) .table) x ≡ true) (sym (c .before .before .before .before .before .ahead-or .ensures)) (ahead-there ((c .before .before .before .before .before .before .before .before .before .before .before .before .before .before .before .before .before .before .loop .state) .table) (passes (c .before .before .before .before .before .before .before .before .before .before .before .before .before .before .before .before .before)) ((c .before .before .before .before .before .before .before .before .before .before .before .before .before .record-frame .result) .at) (c .before .before .before .before .before .before .next-of .result) ((pointed (c .before .before .before .before .before .before .before .before .before .before .before .before .before)) .has-at) (onward (c .before .before .before .before .before .before)))) in
     omega arith
 
--- src/plays.rt:85:22
 mul-answer : tie.Need-mul-answer Inv-loop μ-loop
 mul-answer c = search owned
 
--- src/plays.rt:85:22
 element-copy-out-answer : tie.Need-element-copy-out-answer Inv-loop μ-loop
 element-copy-out-answer c =
     let l = (right (c .before .before .before .before .before .before .before .before .before .before .before .before .before .before .before .before .before .before)) .shaped .channels in
     let h : (c .before .before .before .before .answer-or .result) .0 < 62 = one-of-62 ((c .before .before .before .before .before .before .before .before .before .before .before .before .before .before .before .before .before .before .before .loop .state) .table) (passes (c .before .before .before .before .before .before .before .before .before .before .before .before .before .before .before .before .before .before)) (c .before .before .before .before .answer-or .result) (subst (λ (x : Chan). has-chan ((c .before .before .before .before .before .before .before .before .before .before .before .before .before .before .before .before .before .before .before .loop .state) .table) x ≡ true) (sym (c .before .before .before .before .answer-or .ensures)) (answer-there ((c .before .before .before .before .before .before .before .before .before .before .before .before .before .before .before .before .before .before .before .loop .state) .table) (passes (c .before .before .before .before .before .before .before .before .before .before .before .before .before .before .before .before .before .before)) ((c .before .before .before .before .before .before .before .before .before .before .before .before .before .before .record-frame .result) .at) (c .before .before .before .before .before .before .before .next-of .result) ((pointed (c .before .before .before .before .before .before .before .before .before .before .before .before .before .before)) .has-at) (onward (c .before .before .before .before .before .before .before)))) in
     omega arith
 
--- src/plays.rt:86:20
 mul-back : tie.Need-mul-back Inv-loop μ-loop
 mul-back c = search owned
 
--- src/plays.rt:86:20
 element-copy-out-back : tie.Need-element-copy-out-back Inv-loop μ-loop
 element-copy-out-back c =
     let l = (right (c .before .before .before .before .before .before .before .before .before .before .before .before .before .before .before .before .before .before .before)) .shaped .channels in
     let h : (c .before .before .before .back-or .result) .0 < 62 = one-of-62 ((c .before .before .before .before .before .before .before .before .before .before .before .before .before .before .before .before .before .before .before .before .loop .state) .table) (passes (c .before .before .before .before .before .before .before .before .before .before .before .before .before .before .before .before .before .before .before)) (c .before .before .before .back-or .result) (subst (λ (x : Chan). has-chan ((c .before .before .before .before .before .before .before .before .before .before .before .before .before .before .before .before .before .before .before .before .loop .state) .table) x ≡ true) (sym (c .before .before .before .back-or .ensures)) (back-there ((c .before .before .before .before .before .before .before .before .before .before .before .before .before .before .before .before .before .before .before .before .loop .state) .table) (passes (c .before .before .before .before .before .before .before .before .before .before .before .before .before .before .before .before .before .before .before)) ((c .before .before .before .before .before .before .before .before .before .before .before .before .before .before .before .record-frame .result) .at) ((pointed (c .before .before .before .before .before .before .before .before .before .before .before .before .before .before .before)) .has-at))) in
     omega arith
 
--- src/plays.rt:87:13
 sight-of-requires : tie.Need-sight-of-requires Inv-loop μ-loop
 sight-of-requires c κs = search owned
 
--- src/plays.rt:88:19
 cast-who : tie.Need-cast-who Inv-loop μ-loop
 cast-who c = search owned
 
--- src/plays.rt:89:21
 mul-count : tie.Need-mul-count Inv-loop μ-loop
 mul-count c = search owned
 
--- src/plays.rt:89:21
 element-copy-out-count : tie.Need-element-copy-out-count Inv-loop μ-loop
 element-copy-out-count c =
     let l = (right (c .before .before .before .before .before .before .before .before .before .before .before .before .before .before .before .before .before .before .before .before .before .before)) .shaped .begins in
     let h : (c .before .before .before .before .before .before .before .before .before .before .before .before .before .before .before .before .before .before .record-frame .result) .master .0 < 32 = one-of-32 ((c .before .before .before .before .before .before .before .before .before .before .before .before .before .before .before .before .before .before .before .before .before .before .before .loop .state) .table) (passes (c .before .before .before .before .before .before .before .before .before .before .before .before .before .before .before .before .before .before .before .before .before .before)) ((c .before .before .before .before .before .before .before .before .before .before .before .before .before .before .before .before .before .before .record-frame .result) .master) ((pointed (c .before .before .before .before .before .before .before .before .before .before .before .before .before .before .before .before .before .before)) .has-master) in
     omega arith
 
--- src/plays.rt:90:13
 judge-requires : tie.Need-judge-requires Inv-loop μ-loop
 judge-requires c κs =
     let h = (at-62 (c .before .before .before .before .before .before .before .before .before .before .before .before .before .before .before .before .before .before .before)) in
     let e : (c .before .before .before .before .before .before .before .before .before .before .before .before .before .before .before .before .before .before .before .record-frame .result) .at .0 ≡ channel-number ((c .before .before .before .before .before .before .before .before .before .before .before .before .before .before .before .before .before .before .before .record-frame .result) .event) = ap (λ (x : Chan). x .0) ((pointed (c .before .before .before .before .before .before .before .before .before .before .before .before .before .before .before .before .before .before .before)) .at) in
     (omega arith, onward-small ((c .before .before .before .before .before .before .before .before .before .before .before .before .before .before .before .before .before .before .before .before .before .before .before .before .loop .state) .table) (passes (c .before .before .before .before .before .before .before .before .before .before .before .before .before .before .before .before .before .before .before .before .before .before .before)) (c .before .before .before .before .before .before .before .before .before .before .before .before .next-of .result) (onward (c .before .before .before .before .before .before .before .before .before .before .before .before)))
 
--- src/plays.rt:94:21
 cast-first : tie.Need-cast-first Inv-loop μ-loop
 cast-first c = search owned
 
--- src/plays.rt:96:18
 mul-c1 : tie.Need-mul-c1 Inv-loop μ-loop
 mul-c1 c = search owned
 
--- src/plays.rt:96:18
 element-copy-out-c1 : tie.Need-element-copy-out-c1 Inv-loop μ-loop
 element-copy-out-c1 c =
     let l = (right (c .before .before .before .before .before .before .before .before .before .before .before .before .before .before .before .before .before .before .before .before .before .before .before .before .before .before .before .before)) .shaped .channels in
     let h : (c .before .before .before .before .judge .result .first .at) .0 < 62 = one-of-62 ((c .before .before .before .before .before .before .before .before .before .before .before .before .before .before .before .before .before .before .before .before .before .before .before .before .before .before .before .before .before .loop .state) .table) (passes (c .before .before .before .before .before .before .before .before .before .before .before .before .before .before .before .before .before .before .before .before .before .before .before .before .before .before .before .before)) (c .before .before .before .before .judge .result .first .at) ((acts-there (c .before .before .before .before)) .first) in
     omega arith
 
--- src/plays.rt:97:33
 changed-requires : tie.Need-changed-requires Inv-loop μ-loop
 changed-requires c κs = search owned
 
--- src/plays.rt:97:9
 mul-c2 : tie.Need-mul-c2 Inv-loop μ-loop
 mul-c2 c = search owned
 
--- src/plays.rt:97:9
 element-set-from-c2 : tie.Need-element-set-from-c2 Inv-loop μ-loop
 element-set-from-c2 c =
     let l = (right (c .before .before .before .before .before .before .before .before .before .before .before .before .before .before .before .before .before .before .before .before .before .before .before .before .before .before .before .before .before .before)) .shaped .channels in
     let h : (c .before .before .before .before .before .before .judge .result .first .at) .0 < 62 = one-of-62 ((c .before .before .before .before .before .before .before .before .before .before .before .before .before .before .before .before .before .before .before .before .before .before .before .before .before .before .before .before .before .before .before .loop .state) .table) (passes (c .before .before .before .before .before .before .before .before .before .before .before .before .before .before .before .before .before .before .before .before .before .before .before .before .before .before .before .before .before .before)) (c .before .before .before .before .before .before .judge .result .first .at) ((acts-there (c .before .before .before .before .before .before)) .first) in
     omega arith
 
--- src/plays.rt:98:22
 cast-second : tie.Need-cast-second Inv-loop μ-loop
 cast-second c = search owned
 
--- src/plays.rt:100:18
 mul-c2-2 : tie.Need-mul-c2-2 Inv-loop μ-loop
 mul-c2-2 c = search owned
 
--- src/plays.rt:100:18
 element-copy-out-c2 : tie.Need-element-copy-out-c2 Inv-loop μ-loop
 element-copy-out-c2 c =
     let l = (right (c .before .before .before .before .before .before .before .before .before .before .before .before .before .before .before .before .before .before .before .before .before .before .before .before .before .before .before .before .before .before .before)) .shaped .channels in
     let h : (c .before .before .before .before .before .before .before .judge .result .second .at) .0 < 62 = one-of-62 ((c .before .before .before .before .before .before .before .before .before .before .before .before .before .before .before .before .before .before .before .before .before .before .before .before .before .before .before .before .before .before .before .before .loop .state) .table) (passes (c .before .before .before .before .before .before .before .before .before .before .before .before .before .before .before .before .before .before .before .before .before .before .before .before .before .before .before .before .before .before .before)) (c .before .before .before .before .before .before .before .judge .result .second .at) ((acts-there (c .before .before .before .before .before .before .before)) .second) in
     omega arith
 
--- src/plays.rt:101:34
 changed-requires-2 : tie.Need-changed-requires-2 Inv-loop μ-loop
 changed-requires-2 c κs = search owned
 
--- src/plays.rt:101:9
 mul-c3 : tie.Need-mul-c3 Inv-loop μ-loop
 mul-c3 c = search owned
 
--- src/plays.rt:101:9
 element-set-from-c3 : tie.Need-element-set-from-c3 Inv-loop μ-loop
 element-set-from-c3 c =
     let l = (right (c .before .before .before .before .before .before .before .before .before .before .before .before .before .before .before .before .before .before .before .before .before .before .before .before .before .before .before .before .before .before .before .before .before)) .shaped .channels in
     let h : (c .before .before .before .before .before .before .before .before .before .judge .result .second .at) .0 < 62 = one-of-62 ((c .before .before .before .before .before .before .before .before .before .before .before .before .before .before .before .before .before .before .before .before .before .before .before .before .before .before .before .before .before .before .before .before .before .before .loop .state) .table) (passes (c .before .before .before .before .before .before .before .before .before .before .before .before .before .before .before .before .before .before .before .before .before .before .before .before .before .before .before .before .before .before .before .before .before)) (c .before .before .before .before .before .before .before .before .before .judge .result .second .at) ((acts-there (c .before .before .before .before .before .before .before .before .before)) .second) in
     omega arith
 
--- src/plays.rt:102:21
 cast-third : tie.Need-cast-third Inv-loop μ-loop
 cast-third c = search owned
 
--- src/plays.rt:104:18
 mul-c3-2 : tie.Need-mul-c3-2 Inv-loop μ-loop
 mul-c3-2 c = search owned
 
--- src/plays.rt:104:18
 element-copy-out-c3 : tie.Need-element-copy-out-c3 Inv-loop μ-loop
 element-copy-out-c3 c =
     let l = (right (c .before .before .before .before .before .before .before .before .before .before .before .before .before .before .before .before .before .before .before .before .before .before .before .before .before .before .before .before .before .before .before .before .before .before)) .shaped .channels in
     let h : (c .before .before .before .before .before .before .before .before .before .before .judge .result .third .at) .0 < 62 = one-of-62 ((c .before .before .before .before .before .before .before .before .before .before .before .before .before .before .before .before .before .before .before .before .before .before .before .before .before .before .before .before .before .before .before .before .before .before .before .loop .state) .table) (passes (c .before .before .before .before .before .before .before .before .before .before .before .before .before .before .before .before .before .before .before .before .before .before .before .before .before .before .before .before .before .before .before .before .before .before)) (c .before .before .before .before .before .before .before .before .before .before .judge .result .third .at) ((acts-there (c .before .before .before .before .before .before .before .before .before .before)) .third) in
     omega arith
 
--- src/plays.rt:105:33
 changed-requires-3 : tie.Need-changed-requires-3 Inv-loop μ-loop
 changed-requires-3 c κs = search owned
 
--- src/plays.rt:105:9
 mul-t44 : tie.Need-mul-t44 Inv-loop μ-loop
 mul-t44 c = search owned
 
--- src/plays.rt:105:9
 element-set-from-state : tie.Need-element-set-from-state Inv-loop μ-loop
 element-set-from-state c =
     let l = (right (c .before .before .before .before .before .before .before .before .before .before .before .before .before .before .before .before .before .before .before .before .before .before .before .before .before .before .before .before .before .before .before .before .before .before .before .before)) .shaped .channels in
     let h : (c .before .before .before .before .before .before .before .before .before .before .before .before .judge .result .third .at) .0 < 62 = one-of-62 ((c .before .before .before .before .before .before .before .before .before .before .before .before .before .before .before .before .before .before .before .before .before .before .before .before .before .before .before .before .before .before .before .before .before .before .before .before .before .loop .state) .table) (passes (c .before .before .before .before .before .before .before .before .before .before .before .before .before .before .before .before .before .before .before .before .before .before .before .before .before .before .before .before .before .before .before .before .before .before .before .before)) (c .before .before .before .before .before .before .before .before .before .before .before .before .judge .result .third .at) ((acts-there (c .before .before .before .before .before .before .before .before .before .before .before .before)) .third) in
     omega arith
 
--- src/plays.rt:106:29
 raised-requires : tie.Need-raised-requires Inv-loop μ-loop
 raised-requires c κs = search owned
 
--- src/plays.rt:106:9
 mul-state : tie.Need-mul-state Inv-loop μ-loop
 mul-state c =
     let l = (right (c .before .before .before .before .before .before .before .before .before .before .before .before .before .before .before .before .before .before .before .before .before .before .before .before .before .before .before .before .before .before .before .before .before .before .before .before .before)) .shaped .begins in
     let h : (c .before .before .before .before .before .before .before .before .before .before .before .before .before .before .before .before .before .before .before .before .before .before .before .before .before .before .before .before .before .before .before .before .before .record-frame .result) .master .0 < 32 = one-of-32 ((c .before .before .before .before .before .before .before .before .before .before .before .before .before .before .before .before .before .before .before .before .before .before .before .before .before .before .before .before .before .before .before .before .before .before .before .before .before .before .loop .state) .table) (passes (c .before .before .before .before .before .before .before .before .before .before .before .before .before .before .before .before .before .before .before .before .before .before .before .before .before .before .before .before .before .before .before .before .before .before .before .before .before)) ((c .before .before .before .before .before .before .before .before .before .before .before .before .before .before .before .before .before .before .before .before .before .before .before .before .before .before .before .before .before .before .before .before .before .record-frame .result) .master) ((pointed (c .before .before .before .before .before .before .before .before .before .before .before .before .before .before .before .before .before .before .before .before .before .before .before .before .before .before .before .before .before .before .before .before .before)) .has-master) in
     omega arith
 
--- src/plays.rt:106:9
 element-write-state : tie.Need-element-write-state Inv-loop μ-loop
 element-write-state c =
     let l = (right (c .before .before .before .before .before .before .before .before .before .before .before .before .before .before .before .before .before .before .before .before .before .before .before .before .before .before .before .before .before .before .before .before .before .before .before .before .before)) .shaped .begins in
     let h : (c .before .before .before .before .before .before .before .before .before .before .before .before .before .before .before .before .before .before .before .before .before .before .before .before .before .before .before .before .before .before .before .before .before .record-frame .result) .master .0 < 32 = one-of-32 ((c .before .before .before .before .before .before .before .before .before .before .before .before .before .before .before .before .before .before .before .before .before .before .before .before .before .before .before .before .before .before .before .before .before .before .before .before .before .before .loop .state) .table) (passes (c .before .before .before .before .before .before .before .before .before .before .before .before .before .before .before .before .before .before .before .before .before .before .before .before .before .before .before .before .before .before .before .before .before .before .before .before .before)) ((c .before .before .before .before .before .before .before .before .before .before .before .before .before .before .before .before .before .before .before .before .before .before .before .before .before .before .before .before .before .before .before .before .before .record-frame .result) .master) ((pointed (c .before .before .before .before .before .before .before .before .before .before .before .before .before .before .before .before .before .before .before .before .before .before .before .before .before .before .before .before .before .before .before .before .before)) .has-master) in
     omega arith
 
--- src/plays.rt:107:9
 slice-write-refusals : tie.Need-slice-write-refusals Inv-loop μ-loop
 slice-write-refusals c =
     let a = c .before .before .before .before .before .before .before .before .before .before .before .before .before .before .before .before .before .before .before .before .before .before .before .before .before .before .before .before .before .before .before .before .before .before .before .before .before .before .loop .inv .0 .rf-length in
@@ -375,7 +308,6 @@ slice-write-refusals c =
     let t = c .before .before .before .before .before .before .before .before .before .before .before .before .before .before .before .before .before .before .before .before .before .before .before .before .before .before .before .before .before .before .before .before .before .before .before .before .before .loop-test in
     omega arith
 
--- src/plays.rt:108:9
 mul-values : tie.Need-mul-values Inv-loop μ-loop
 mul-values c =
     let a = c .before .before .before .before .before .before .before .before .before .before .before .before .before .before .before .before .before .before .before .before .before .before .before .before .before .before .before .before .before .before .before .before .before .before .before .before .before .before .loop .inv .0 .rf-length in
@@ -386,7 +318,6 @@ mul-values c =
     let t = c .before .before .before .before .before .before .before .before .before .before .before .before .before .before .before .before .before .before .before .before .before .before .before .before .before .before .before .before .before .before .before .before .before .before .before .before .before .loop-test in
     omega (arith, c .before .before .before .before .before .before .before .before .before .before .before .before .before .before .before .before .before .before .before .before .before .before .before .before .before .before .before .before .before .before .before .before .before .before .before .before .before .before .before .before .before .before .good .1)
 
--- src/plays.rt:108:9
 slice-write-values : tie.Need-slice-write-values Inv-loop μ-loop
 slice-write-values c =
     let a = c .before .before .before .before .before .before .before .before .before .before .before .before .before .before .before .before .before .before .before .before .before .before .before .before .before .before .before .before .before .before .before .before .before .before .before .before .before .before .loop .inv .0 .rf-length in
@@ -397,7 +328,6 @@ slice-write-values c =
     let t = c .before .before .before .before .before .before .before .before .before .before .before .before .before .before .before .before .before .before .before .before .before .before .before .before .before .before .before .before .before .before .before .before .before .before .before .before .before .loop-test in
     omega arith
 
--- src/plays.rt:109:9
 add-i : tie.Need-add-i Inv-loop μ-loop
 add-i c =
     let a = c .before .before .before .before .before .before .before .before .before .before .before .before .before .before .before .before .before .before .before .before .before .before .before .before .before .before .before .before .before .before .before .before .before .before .before .before .before .before .loop .inv .0 .rf-length in
@@ -408,7 +338,6 @@ add-i c =
     let t = c .before .before .before .before .before .before .before .before .before .before .before .before .before .before .before .before .before .before .before .before .before .before .before .before .before .before .before .before .before .before .before .before .before .before .before .before .before .loop-test in
     omega (arith, c .before .before .before .before .before .before .before .before .before .before .before .before .before .before .before .before .before .before .before .before .before .before .before .before .before .before .before .before .before .before .before .before .before .before .before .before .before .before .before .before .before .before .good .1)
 
--- src/plays.rt:69:5
 loop-less : tie.Need-loop-less Inv-loop μ-loop
 loop-less c =
     let a = c .before .before .before .before .before .before .before .before .before .before .before .before .before .before .before .before .before .before .before .before .before .before .before .before .before .before .before .before .before .before .before .before .before .before .before .before .before .before .loop .inv .0 .rf-length in
@@ -419,7 +348,6 @@ loop-less c =
     let t = c .before .before .before .before .before .before .before .before .before .before .before .before .before .before .before .before .before .before .before .before .before .before .before .before .before .before .before .before .before .before .before .before .before .before .before .before .before .loop-test in
     omega arith
 
--- src/plays.rt:69:5
 loop-again : tie.Need-loop-again Inv-loop μ-loop
 loop-again c =
     let lp = c .before .before .before .before .before .before .before .before .before .before .before .before .before .before .before .before .before .before .before .before .before .before .before .before .before .before .before .before .before .before .before .before .before .before .before .before .before .before .loop in
@@ -437,15 +365,12 @@ loop-again c =
       lp .inv .2,
     )
 
--- src/plays.rt:60:1
 same-length : tie.Need-same-length Inv-loop μ-loop
 same-length c = search owned
 
--- src/plays.rt:60:1
 same-length-2 : tie.Need-same-length-2 Inv-loop μ-loop
 same-length-2 c = search owned
 
--- src/plays.rt:60:1
 returns : tie.Need-returns Inv-loop μ-loop
 returns c =
     let lp = c .before .loop in

@@ -1,32 +1,24 @@
+-- `look_back` tells what its definition tells.
+-- The idea: each arm is a case of the definition, and the callees say the rest.
 use borrow.Author.Needs.{needs}
 use Rattle.events.proofs.sights.look_back.Statement.{statement}
 use Rattle.events.proofs.sights.look_back.Tie as tie
-use Rattle.events.proofs.sights.look_back.Reads as reads
-use Rattle.events.proofs.sights.look_back.Lts as lts
-use Rattle.events.proofs.sights.dull.Reads as dull-reads
-use Rattle.queue.proofs.Channel.looked.Reads as looked-reads
 
--- src/sights.rt:99:30
 enum-told : tie.Need-enum-told
 enum-told c = search needs
 
--- src/sights.rt:99:30
 dull-requires : tie.Need-dull-requires
 dull-requires c κs = search needs
 
--- src/sights.rt:100:34
 enum-told-2 : tie.Need-enum-told-2
 enum-told-2 c = search needs
 
--- src/sights.rt:100:34
 looked-requires : tie.Need-looked-requires
 looked-requires c κs = search needs
 
--- src/sights.rt:95:1
 returns : tie.Need-returns
 returns c = search needs
 
--- src/sights.rt:95:1
 returns-2 : tie.Need-returns-2
 returns-2 c = rw (c .before .enum-told2 .given .1) (c .looked .ensures)
 

@@ -1,3 +1,5 @@
+-- `acted` changes one channel as its definition does.
+-- The idea: a channel that is not there changes nothing.
 use Rattle.network.proofs.Acts.{acted-beyond}
 use mathlib.Core.Path.{_≡_, refl}
 use Rattle.base.proofs.Walks.{owned}
@@ -8,15 +10,10 @@ use Rattle.network.specs.Acts.{acted-on}
 use borrow.Author.Needs.{needs}
 use Rattle.network.proofs.State.acted.Statement.{statement}
 use Rattle.network.proofs.State.acted.Tie as tie
-use Rattle.network.proofs.State.acted.Reads as reads
-use Rattle.network.proofs.State.acted.Lts as lts
-use Rattle.queue.proofs.Channel.changed.Reads as changed-reads
 
--- src/lib.rt:39:17
 cast-i : tie.Need-cast-i
 cast-i c = search needs
 
--- src/lib.rt:41:13
 returns : tie.Need-returns
 unfolding acted-on
 returns c =
@@ -24,27 +21,21 @@ returns c =
     let l : length (a .t1 .channels) ≡ 62 = search owned in
     acted-beyond (a .t1) (a .a) (omega arith)
 
--- src/lib.rt:44:17
 mul-c : tie.Need-mul-c
 mul-c c = search needs
 
--- src/lib.rt:44:17
 element-copy-out-c : tie.Need-element-copy-out-c
 element-copy-out-c c = search needs
 
--- src/lib.rt:45:28
 changed-requires : tie.Need-changed-requires
 changed-requires c κs = search needs
 
--- src/lib.rt:45:9
 mul-t9 : tie.Need-mul-t9
 mul-t9 c = search needs
 
--- src/lib.rt:45:9
 element-set-from-self : tie.Need-element-set-from-self
 element-set-from-self c = search needs
 
--- src/lib.rt:35:5
 returns-2 : tie.Need-returns-2
 unfolding acted-on
 returns-2 c = rw (c .changed .ensures)
