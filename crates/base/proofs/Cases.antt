@@ -3,6 +3,7 @@ use mathlib.Core.Path.{_≡_, refl, sym, _∙_}
 use mathlib.Core.Bool.{Bool, true, false, cond, not, _&&_}
 use borrow.Author.Needs.{needs}
 use borrow.Author.Tests.{lt-ltb, le-ltb, le-leb, lt-leb, eq-eqb, ne-eqb, not-true, not-false}
+use Rattle.base.proofs.Logic.{true-and}
 
 pub cond-yes : {B : Type 0} (t : Bool) {x : B} (a b : B) → t ≡ true → x ≡ a → x ≡ cond t a b
 cond-yes t a b e p = rw (e, p)
@@ -16,9 +17,6 @@ and-yes a b e p = rw (e, p)
 
 pub and-no : (a b : Bool) {x : Bool} → a ≡ false → x ≡ false → x ≡ a && b
 and-no a b e p = rw (e, p)
-
-pub both-true : (a b : Bool) → a ≡ true → b ≡ true → a && b ≡ true
-both-true a b e p = rw (e, p)
 
 pub first-false : (a b : Bool) → a ≡ false → a && b ≡ false
 first-false a b e = rw e
@@ -36,4 +34,4 @@ by-call-not r t e p = sym e ∙ not-false r p
 pub by-call-so : (r t : Bool) → r ≡ t → not r ≡ true → t ≡ false
 by-call-so r t e p = sym e ∙ not-true r p
 
-pub ruleset cases = (needs, cond-yes, cond-no, and-yes, and-no, both-true, first-false, second-false, by-call, by-call-not, by-call-so, lt-ltb, le-ltb, le-leb, lt-leb, eq-eqb, ne-eqb, not-true, not-false)
+pub ruleset cases = (needs, cond-yes, cond-no, and-yes, and-no, true-and, first-false, second-false, by-call, by-call-not, by-call-so, lt-ltb, le-ltb, le-leb, lt-leb, eq-eqb, ne-eqb, not-true, not-false)

@@ -1,15 +1,14 @@
 -- Laws of members and cells of lists: tests over all cells are said of each cell and of each member, and carried through map, modify and alter.
 -- A cell that is not there is read as a default that passes too, so that no law asks for a bound.
-use Prim.Native.Nat.{ℕ, zero, suc, _+_, _≤_, _<_}
+use Prim.Native.Nat.{ℕ, zero, suc, _<_}
 use mathlib.Core.Path.{_≡_, refl, sym, ap, _∙_}
 use mathlib.Core.Bool.{Bool, true, false, cond, _&&_, _||_}
 use mathlib.Core.Logic.{_⊎_, inl, inr, ⊎-elim}
 use mathlib.Core.Option.{some}
 use mathlib.Core.List.{List, [], _∷_, _++_, map}
 use native.Mathlib.Omega.{arith}
-use native.Mathlib.Nat.{le-refl}
-use lib.ListN.{getD, length, replicate}
-use Rattle.base.specs.Lists.{find, alter, count, all, any, all-from, modify}
+use lib.ListN.{getD, length}
+use Rattle.base.specs.Lists.{find, alter, all, any, all-from, modify}
 use Rattle.base.proofs.Logic.{split, and-true, true-and, and-four, both, none-some}
 
 pub or-true : (a b : Bool) → a || b ≡ true → (a ≡ true) ⊎ (b ≡ true)
@@ -92,19 +91,6 @@ module _ {A : Type 0} where
           (λ k. ⊎-elim (λ n. inl (later n)) (λ w. inr (w .0, later (w .1), w .2, w .3)) (r k))
           (in-cons j)
 
-  pub cells-count-add : (p : A → Bool) (l m : List A) → count p (l ++ m) ≡ count p l + count p m
-  unfolding count
-  cells-count-add p [] m = omega arith
-  cells-count-add p (x ∷ xs) m = split (p x) (λ t. rw t (omega (arith, cells-count-add p xs m))) (λ t. rw t (cells-count-add p xs m))
-
-  pub cells-count-alter : (p q : A → Bool) (f : A → List A) → ((x : A) → count p (f x) ≤ count p (x ∷ [])) → (l : List A) → count p (alter q f l) ≤ count p l
-  unfolding alter
-  cells-count-alter p q f h [] = le-refl (count p [])
-  cells-count-alter p q f h (x ∷ xs) =
-      split (q x)
-      (λ k. rw k (omega (arith, h x, cells-count-add p (f x) xs, cells-count-add p (x ∷ []) xs)))
-      (λ k. rw k (omega (arith, cells-count-alter p q f h xs, cells-count-add p (x ∷ []) xs, cells-count-add p (x ∷ []) (alter q f xs))))
-
   -- ---- cells
 
   from-suc : (p : ℕ → A → Bool) (i : ℕ) (l : List A) → all-from (suc i) p l ≡ all-from i (λ j. p (suc j)) l
@@ -142,16 +128,6 @@ module _ {A : Type 0} where
 
   pub cell-all : (p : A → Bool) (l : List A) (d : A) → ((j : ℕ) → p (getD l j d) ≡ true) → all p l ≡ true
   cell-all p l d h = all-is-from p 0 l ∙ cell-from (λ _ x. p x) l d h
-
-  pub all-same : (p : A → Bool) (n : ℕ) (a : A) → p a ≡ true → all p (replicate n a) ≡ true
-  unfolding all
-  all-same p zero a h = refl
-  all-same p (suc n) a h = true-and (p a) (all p (replicate n a)) h (all-same p n a h)
-
-  pub same-cell : (n j : ℕ) (a : A) → getD (replicate n a) j a ≡ a
-  same-cell zero j a = refl
-  same-cell (suc n) zero a = refl
-  same-cell (suc n) (suc j) a = same-cell n j a
 
   -- ---- one cell changed
 

@@ -57,3 +57,7 @@ or-false false b h = (refl, h)
 
 pub none-some : {A : Type 0} {a : A} {o : Option A} → o ≡ none → o ≡ some a → ⊥
 none-some p q = let z : _≡_ {A = ℕ} 0 1 = cc in omega arith
+
+-- two results that a statement `r ≡ definition` allows are one
+pub one-result : {A : Type 0} {definition : A} (r q : A) → r ≡ definition → q ≡ definition → r ≡ q
+one-result r q h k = h ∙ sym k

@@ -1,6 +1,6 @@
 -- What adding, altering and counting do to what is found in a list, and what changes of one cell do to each other and to the rest.
 -- Each by going down the list; at each element a test says which case it is, and with its equation the definitions compute.
-use Prim.Native.Nat.{ℕ, zero, suc, _+_, _≤_, _<_}
+use Prim.Native.Nat.{ℕ, zero, suc, _+_, _≤_}
 use native.Mathlib.Omega.{arith}
 use native.Mathlib.Nat.{le-refl}
 use mathlib.Core.Path.{_≡_, refl, sym, ap}
@@ -116,12 +116,6 @@ module _ {A : Type 0} where
   modify-same [] i f g d h = refl
   modify-same (x ∷ xs) zero f g d h = ap (_∷ xs) h
   modify-same (x ∷ xs) (suc i) f g d h = ap (x ∷_) (modify-same xs i f g d h)
-
-  pub getD-modify-same : (l : List A) (i : ℕ) (f : A → A) (d : A) → i < length l → getD (modify l i f) i d ≡ f (getD l i d)
-  unfolding modify
-  getD-modify-same [] i f d h = absurd (omega arith)
-  getD-modify-same (x ∷ xs) zero f d h = refl
-  getD-modify-same (x ∷ xs) (suc i) f d h = getD-modify-same xs i f d (omega arith)
 
   pub getD-modify-other : (l : List A) (i j : ℕ) (f : A → A) (d : A) → i ≢ j → getD (modify l i f) j d ≡ getD l j d
   unfolding modify

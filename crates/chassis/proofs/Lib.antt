@@ -14,3 +14,4 @@ pub mod Nearest
 pub mod Following
 pub mod Places
 pub mod Asking
+pub mod Numbered

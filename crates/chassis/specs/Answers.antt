@@ -28,6 +28,10 @@ answer-by (some n) = table-variants.Refused n
 unfoldable pub table-answer : Table → Bool → TableAnswer
 table-answer T stray = answer-by (refusal (table-grounds T stray))
 
+abbrev pub route-number : RouteAnswer → ℕ
+route-number (route-variants.Next n) = 0
+route-number (route-variants.Refused n) = n
+
 -- the next place as a question that any caller may ask: 23 to 27 for the table, 2 for a number that is not in it
 unfoldable pub route-grounds : Table → Chan → Agent → List Ground
 route-grounds T N a = table-grounds T false ++ (2 when not (has-chan T N && has-agent T a) ∷ [])

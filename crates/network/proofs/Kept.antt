@@ -11,7 +11,8 @@ use borrow.Author.Tests.{leb-false, eqb-true, eq-eqb}
 use lib.ListN.{getD}
 use Rattle.base.specs.Lists.{alter, count, modify}
 use Rattle.base.proofs.Logic.{split, both}
-use Rattle.base.proofs.Cells.{In, in-none, in-one, in-append, of-alter, cells-count-add, cells-count-alter, length-modify, modify-every}
+use Rattle.base.proofs.Cells.{In, in-none, in-one, in-append, of-alter, length-modify, modify-every}
+use Rattle.base.proofs.Queues.{count-add, count-alter}
 use Rattle.chassis.specs.declared.Agent.{Agent}
 use Rattle.chassis.specs.declared.Chan.{Chan}
 use Rattle.chassis.specs.declared.Table.{Table}
@@ -66,9 +67,9 @@ filled T l x k r h =
     (λ t.
     let e = eqb-true (x .kind) k t in
     let q : filling k l < limit T k = subst (λ (j : ℕ). filling j l < limit T j) e r in
-    let c = rw t at (cells-count-add (is-kind k) l (x ∷ [])) in
+    let c = rw t at (count-add (is-kind k) l (x ∷ [])) in
     omega arith)
-    (λ f. let c = rw f at (cells-count-add (is-kind k) l (x ∷ [])) in omega arith)
+    (λ f. let c = rw f at (count-add (is-kind k) l (x ∷ [])) in omega arith)
 
 pub good-add : (s : Net) (N : Chan) (x : Entry) → Good s → Room s (x .kind) N → Fit (s .table) (s .begins) N x → Good (edit (add N x) s)
 unfolding edit
@@ -88,7 +89,7 @@ pub record Tame (p : Entry → Bool) (f : Entry → List Entry) : Type 0 where
 
 fewer-left : {p : Entry → Bool} {f : Entry → List Entry} → Tame p f → (k : ℕ) (l : List Entry) → filling k (alter p f l) ≤ filling k l
 unfolding filling
-fewer-left {p} {f} t k l = cells-count-alter (is-kind k) p f (t .fewer k) l
+fewer-left {p} {f} t k l = count-alter (is-kind k) p f (t .fewer k) l
 
 pub good-change : (s : Net) (N : Chan) (p : Entry → Bool) (f : Entry → List Entry) → Tame p f → Good s → Good (edit (change N p f) s)
 unfolding edit alter

@@ -11,7 +11,9 @@ use lib.Seq.{take-append-seam, drop-append-seam, length-take-le}
 use lib.Dec.{leb, ltb, eqb}
 use Rattle.base.specs.Lists.{all, all-from}
 use Rattle.base.proofs.Logic.{split, and-true, true-and}
-use Rattle.base.proofs.Cells.{all-cell, cell-all, from-cell, cell-from, all-map, from-map, map-back, all-same, same-cell}
+use Rattle.base.proofs.Cells.{all-cell, cell-all, from-cell, cell-from, all-map, from-map, map-back}
+use Rattle.base.proofs.Made.{replicate-at}
+use Rattle.base.proofs.Padded.{filled-all}
 use Rattle.chassis.specs.declared.Agent.{Agent}
 use Rattle.chassis.specs.declared.Chan.{Chan}
 use Rattle.chassis.specs.declared.Table.{Table}
@@ -141,7 +143,7 @@ module _ (n : Net) (k : keeps-the-rules n ≡ true) where
   zero-behind : (l : List Entry) → all is-zero-entry (drop (length l) (l ++ replicate (24 - length l) zero-entry)) ≡ true
   unfolding is-zero-entry
   zero-behind l =
-      ap (all is-zero-entry) (drop-append-seam l (replicate (24 - length l) zero-entry)) ∙ all-same is-zero-entry (24 - length l) zero-entry refl
+      ap (all is-zero-entry) (drop-append-seam l (replicate (24 - length l) zero-entry)) ∙ filled-all is-zero-entry zero-entry refl (24 - length l)
 
   pub sound-pack : ((a : Agent) → has-agent (n .table) a ≡ false → begun n a ≡ 0) → sound (pack n) ≡ true
   unfolding sound unused-are-zero pack
@@ -162,8 +164,8 @@ module _ (n : Net) (k : keeps-the-rules n ≡ true) where
 
 pub empty-waits : (T : Table) (N : Chan) → waiting (empty-net T) N ≡ []
 unfolding empty-net
-empty-waits T N = same-cell 62 (N .0) []
+empty-waits T N = replicate-at 62 (N .0) []
 
 pub empty-begun : (T : Table) (a : Agent) → begun (empty-net T) a ≡ 0
 unfolding empty-net
-empty-begun T a = same-cell 32 (a .0) 0
+empty-begun T a = replicate-at 32 (a .0) 0

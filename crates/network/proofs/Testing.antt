@@ -1,24 +1,25 @@
 -- The tests that the code makes are the soundness of document 01: the clauses of an entry, and channel by channel what the definition says clause by clause.
--- An entry's clauses are laws, each with those before it as premises; tests over all channels are drawn together into one test of each.
-use Prim.Native.Nat.{ℕ}
+-- The clauses of an entry, of the limits and of a channel are laws, each with those before it as premises; tests over all channels are drawn together into one test of each.
+use Prim.Native.Nat.{ℕ, _≤_, _<_}
 use mathlib.Core.Path.{_≡_, sym, ap, _∙_}
 use mathlib.Core.Bool.{Bool, true, false, not, _&&_, _||_}
 use mathlib.Core.List.{List}
-use borrow.Author.Tests.{eq-eqb, ne-eqb}
+use borrow.Author.Tests.{eq-eqb, ne-eqb, le-leb, lt-leb}
 use lib.ListN.{getD, drop}
 use lib.Dec.{leb, ltb, eqb}
 use Rattle.base.specs.Lists.{all, all-from}
 use Rattle.base.proofs.Cases.{by-call, by-call-not, by-call-so}
-use Rattle.base.proofs.Logic.{and-assoc, and-swap}
+use Rattle.base.proofs.Logic.{and-assoc, and-swap, and-end}
 use Rattle.base.proofs.Cells.{all-is-from, both-from, all-map, from-map}
 use Rattle.chassis.specs.declared.Chan.{Chan}
 use Rattle.chassis.specs.declared.Table.{Table}
 use Rattle.chassis.specs.Numbers.{chan, same-agent}
-use Rattle.chassis.specs.Channels.{has-agent, chan-count}
+use Rattle.chassis.specs.Channels.{has-agent, chan-count, limit}
 use Rattle.chassis.specs.Tables.{within, table-passes}
 use Rattle.queue.specs.declared.Entry.{Entry}
 use Rattle.queue.specs.declared.Channel.{Channel}
 use Rattle.queue.specs.Entries.{P, R, C, is-kind, is-zero-entry}
+use Rattle.queue.specs.Queues.{filling}
 use Rattle.queue.specs.Packing.{live}
 use Rattle.network.specs.declared.State.{State}
 use Rattle.network.specs.Nets.{view}
@@ -67,6 +68,48 @@ module _ (T : Table) (begins : List ℕ) (N : Chan) (x : Entry) where
               marked-right g h = rw (a, b, c, d, e, f, g) h
 
 pub ruleset entry-question = (unknown, posts-a-read, no-master, no-target, its-own-target, not-begun, misplaced, marked-right, by-call, by-call-not, by-call-so, eq-eqb, ne-eqb)
+
+-- ---- the limits of one channel
+
+module _ (T : Table) (l : List Entry) where
+  pub too-many-P : leb (filling P l) (limit T P) ≡ false → false ≡ within-limits T l
+  unfolding within-limits all
+  too-many-P a = rw a
+
+  module _ (a : leb (filling P l) (limit T P) ≡ true) where
+    pub too-many-R : leb (filling R l) (limit T R) ≡ false → false ≡ within-limits T l
+    unfolding within-limits all
+    too-many-R b = rw (a, b)
+
+    pub as-many-C : leb (filling R l) (limit T R) ≡ true → leb (filling C l) (limit T C) ≡ within-limits T l
+    unfolding within-limits all
+    as-many-C b = rw (a, b) (and-end _)
+
+-- ---- one channel
+
+module _ (T : Table) (begins : List ℕ) (n : ℕ) (c : Channel) where
+  pub too-many : 24 < c .count → false ≡ sound-channel T begins n c
+  unfolding sound-channel
+  too-many a = rw (lt-leb (c .count) 24 a)
+
+  module _ (a : c .count ≤ 24) where
+    pub over-a-limit : within-limits T (live c) ≡ false → false ≡ sound-channel T begins n c
+    unfolding sound-channel
+    over-a-limit b = rw (le-leb (c .count) 24 a, b)
+
+    module _ (b : within-limits T (live c) ≡ true) where
+      pub one-misfits : all (fit (counting T begins) (chan n)) (live c) ≡ false → false ≡ sound-channel T begins n c
+      unfolding sound-channel
+      one-misfits d = rw (le-leb (c .count) 24 a, b, d)
+
+      module _ (d : all (fit (counting T begins) (chan n)) (live c) ≡ true) where
+        pub not-all-zero : all is-zero-entry (drop (c .count) (c .entries)) ≡ false → false ≡ sound-channel T begins n c
+        unfolding sound-channel
+        not-all-zero e = rw (le-leb (c .count) 24 a, b, d, e)
+
+        pub is-there-or-empty : all is-zero-entry (drop (c .count) (c .entries)) ≡ true → {r : Bool} → r ≡ (ltb n (chan-count T) || eqb (c .count) 0) → r ≡ sound-channel T begins n c
+        unfolding sound-channel
+        is-there-or-empty e f = rw (le-leb (c .count) 24 a, b, d, e) f
 
 -- ---- all channels
 

@@ -1,13 +1,15 @@
 -- The definitions of a channel, said plainly: what a name is, what stands before an entry, what fills a channel.
-use Prim.Native.Nat.{ℕ}
-use mathlib.Core.Path.{_≡_, refl}
-use mathlib.Core.Bool.{Bool, true, false, not, _&&_, _||_}
+-- Each is also said part by part or entry by entry, as the code finds it out, so that the proofs of the code need not open the definitions.
+use Prim.Native.Nat.{ℕ, suc}
+use mathlib.Core.Path.{_≡_, refl, ap, sym, _∙_}
+use mathlib.Core.Bool.{true, false, cond, not, _&&_, _||_, and-false}
 use mathlib.Core.List.{List, [], _∷_, _++_}
-use borrow.Author.Tests.{eqb-true}
+use borrow.Author.Tests.{eqb-true, eq-eqb, ne-eqb}
 use lib.Dec.{eqb}
-use Rattle.base.specs.Lists.{find, any}
+use Rattle.base.specs.Lists.{find, count, any}
+use Rattle.base.proofs.Cases.{and-yes}
 use Rattle.base.proofs.Logic.{split, and-true, or-false}
-use Rattle.base.proofs.Lists.{count-past}
+use Rattle.base.proofs.Lists.{count-past, ahead-here, ahead-past}
 use Rattle.chassis.specs.Numbers.{same-agent}
 use Rattle.queue.specs.declared.Transaction.{Transaction}
 use Rattle.queue.specs.declared.Entry.{Entry}
@@ -33,14 +35,43 @@ named-kind : (k : ℕ) (t : Transaction) (x : Entry) → is-named k t x ≡ true
 unfolding is-named
 named-kind k t x h = and-true (is-kind k x) (same-transaction (x .transaction) t) h .0
 
+-- part by part: another kind or another master is another name, and where both are right the number decides
+module _ (k : ℕ) (t : Transaction) (x : Entry) where
+  pub another-kind : (x .kind ≡ k → ⊥) → false ≡ is-named k t x
+  unfolding is-named
+  another-kind h = rw (ne-eqb (x .kind) k h)
+
+  pub another-master : (x .transaction .master .0 ≡ t .master .0 → ⊥) → false ≡ is-named k t x
+  unfolding is-named
+  another-master h =
+      sym
+      (ap (λ b. is-kind k x && (b && eqb (x .transaction .number) (t .number))) (ne-eqb (x .transaction .master .0) (t .master .0) h)
+      ∙ and-false (is-kind k x))
+
+  pub the-number-decides : x .kind ≡ k → x .transaction .master .0 ≡ t .master .0 → eqb (x .transaction .number) (t .number) ≡ is-named k t x
+  unfolding is-named
+  the-number-decides h m =
+      and-yes (is-kind k x) (same-transaction (x .transaction) t) (eq-eqb (x .kind) k h)
+      (and-yes (same-agent (x .transaction .master) (t .master)) (eqb (x .transaction .number) (t .number)) (eq-eqb (x .transaction .master .0) (t .master .0) m) refl)
+
+-- from the oldest on: one that is not it holds it back where it is a P, and is passed over where it is not
+module _ (k : ℕ) (t : Transaction) (x : Entry) (l : List Entry) where
+  pub behind-P-past : is-named k t x ≡ false → behind-P k t (x ∷ l) ≡ (is-kind P x || behind-P k t l)
+  unfolding behind-P
+  behind-P-past h = ahead-past (is-kind P) (is-named k t) x l h
+
+  pub behind-P-here : is-named k t x ≡ true → behind-P k t (x ∷ l) ≡ false
+  unfolding behind-P
+  behind-P-here h = ahead-here (is-kind P) (is-named k t) x l h
+
 -- x is the oldest of its name: an older P stands before it exactly where one of those before it is a P
 pub behind-P-is : (k : ℕ) (t : Transaction) (us : List Entry) (x : Entry) (vs : List Entry) → any (is-named k t) us ≡ false → is-named k t x ≡ true
     → behind-P k t (us ++ (x ∷ vs)) ≡ any (is-kind P) us
-unfolding behind-P find any
-behind-P-is k t [] x vs n h = split (is-kind P x) (λ y. rw (y, h)) (λ y. rw (y, h, h))
+unfolding any
+behind-P-is k t [] x vs n h = behind-P-here k t x vs h
 behind-P-is k t (u ∷ us) x vs n h =
     let r = or-false (is-named k t u) (any (is-named k t) us) n in
-    split (is-kind P u) (λ y. rw (y, r .0)) (λ y. rw (y, r .0) (behind-P-is k t us x vs (r .1) h))
+    behind-P-past k t u (us ++ (x ∷ vs)) (r .0) ∙ ap (is-kind P u ||_) (behind-P-is k t us x vs (r .1) h)
 
 -- and a C is the oldest C exactly where none of those before it is one
 pub first-C-is : (t : Transaction) (us : List Entry) (x : Entry) (vs : List Entry) → any (is-named C t) us ≡ false → is-named C t x ≡ true
@@ -50,6 +81,11 @@ first-C-is t [] x vs n h = rw (named-kind C t x h, h)
 first-C-is t (u ∷ us) x vs n h =
     let r = or-false (is-named C t u) (any (is-named C t) us) n in
     split (is-kind C u) (λ y. rw (y, r .0)) (λ y. rw y (first-C-is t us x vs (r .1) h))
+
+-- entry by entry: one of that kind counts, and no other
+pub filling-turn : (k : ℕ) (x : Entry) (l : List Entry) → filling k (x ∷ l) ≡ cond (is-kind k x) (suc (filling k l)) (filling k l)
+unfolding filling count
+filling-turn k x l = refl
 
 -- each kind fills a channel by itself: an entry of another kind, wherever it stands, counts for nothing
 pub other-kinds-fill-nothing : (k : ℕ) (us : List Entry) (x : Entry) (vs : List Entry) → is-kind k x ≡ false → filling k (us ++ (x ∷ vs)) ≡ filling k (us ++ vs)

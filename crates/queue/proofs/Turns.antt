@@ -2,12 +2,11 @@
 -- What is left is drop i (live c): its first is the entry at place i, and past the smaller of the count and 24 nothing is left.
 use Prim.Native.Nat.{ℕ, _+_, _≤_, _<_, min}
 use native.Mathlib.Omega.{arith}
-use mathlib.Core.Path.{_≡_, refl}
+use mathlib.Core.Path.{_≡_, refl, _∙_}
 use mathlib.Core.Bool.{Bool, true, false, cond, _||_}
 use mathlib.Core.List.{List, [], _∷_}
 use lib.ListN.{length, getD, drop, length-take}
 use Rattle.base.specs.Lists.{find}
-use Rattle.base.proofs.Logic.{split}
 use Rattle.base.proofs.Walks.{walk-on, walk-over}
 use Rattle.queue.specs.declared.Transaction.{Transaction}
 use Rattle.queue.specs.declared.Entry.{Entry}
@@ -17,13 +16,26 @@ use Rattle.queue.specs.Entries.{P, zero-entry, is-kind, is-named}
 use Rattle.queue.specs.Queues.{behind-P}
 use Rattle.queue.specs.Packing.{live}
 use Rattle.queue.specs.Changes.{look-of}
+use Rattle.queue.proofs.Plainly.{behind-P-here, behind-P-past}
 
-module _ (c : Channel) (i : ℕ) (long : length (c .entries) ≡ 24) where
-  pub on : i < min (c .count) 24 → drop i (live c) ≡ getD (c .entries) i zero-entry ∷ drop (i + 1) (live c)
-  on h = walk-on (c .entries) (c .count) i zero-entry (omega arith) (omega arith)
+-- before place i: g of what is left, from here on, is the whole
+pub record Ahead {B : Type 0} (g : ℕ → List Entry → B) (c : Channel) (i : ℕ) (whole : B) : Type 0 where
+  pub long : length (c .entries) ≡ 24
+  pub rest : g i (drop i (live c)) ≡ whole
 
-  pub over : min (c .count) 24 ≤ i → drop i (live c) ≡ []
-  over h = walk-over (c .entries) (c .count) i (rw (length-take, long) h)
+module _ {B : Type 0} {g : ℕ → List Entry → B} {c : Channel} {i : ℕ} {w : B} (r : Ahead g c i w) where
+  -- the entry at place i comes first
+  pub here : i < min (c .count) 24 → g i (getD (c .entries) i zero-entry ∷ drop (i + 1) (live c)) ≡ w
+  here h =
+      let long = r .long in
+      rw (walk-on (c .entries) (c .count) i zero-entry (omega arith) (omega arith)) at (r .rest)
+
+  -- one place on; what is made of the rest may be another thing then, as where a count has gone up
+  pub further : {h : ℕ → List Entry → B} → i < min (c .count) 24 → ((l : List Entry) → h (i + 1) l ≡ g i (getD (c .entries) i zero-entry ∷ l)) → Ahead h c (i + 1) w
+  further k e = record { long = r .long; rest = e (drop (i + 1) (live c)) ∙ here k }
+
+  pub over : min (c .count) 24 ≤ i → g i [] ≡ w
+  over h = rw (walk-over (c .entries) (c .count) i (rw (length-take, r .long) h)) at (r .rest)
 
 -- a look goes on behind those that were passed, where b says whether a P was among them
 abbrev pub seen : Bool → Look → Look
@@ -31,17 +43,17 @@ seen b k = record { found = k .found; behind = b || k .behind; entry = k .entry 
 
 module _ (k : ℕ) (t : Transaction) where
   pub look-here : (b : Bool) (x : Entry) (l : List Entry) → is-named k t x ≡ true → record { found = true; behind = b; entry = x } ≡ seen b (look-of k t (x ∷ l))
-  unfolding look-of behind-P find
+  unfolding look-of find
   look-here true x l h = rw h
-  look-here false x l h = split (is-kind P x) (λ y. rw (h, y, h)) (λ y. rw (h, y, h))
+  look-here false x l h = rw (h, behind-P-here k t x l h)
 
   pub look-past : (b b′ y : Bool) (x : Entry) (l : List Entry) → is-named k t x ≡ false → is-kind P x ≡ y → b′ ≡ cond y true b
       → seen b′ (look-of k t l) ≡ seen b (look-of k t (x ∷ l))
-  unfolding look-of behind-P find
+  unfolding look-of find
   look-past true b′ true x l h y w = rw (h, w)
   look-past true b′ false x l h y w = rw (h, w)
-  look-past false b′ true x l h y w = rw (h, y, h, w)
-  look-past false b′ false x l h y w = rw (h, y, w)
+  look-past false b′ true x l h y w = rw (h, behind-P-past k t x l h, y, w)
+  look-past false b′ false x l h y w = rw (h, behind-P-past k t x l h, y, w)
 
   pub look-none : (b : Bool) → record { found = false; behind = true; entry = zero-entry } ≡ seen b (look-of k t [])
   unfolding look-of behind-P find

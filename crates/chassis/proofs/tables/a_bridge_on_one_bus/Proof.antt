@@ -1,15 +1,15 @@
 -- A bridge has one bus at both its ends.
--- What is left to test, tested from here, is the whole: `any-stop`, `any-on` and `any-over`.
-use Prim.Native.Nat.{_-_, _≤_}
-use mathlib.Core.Path.{_≡_, refl, sym, _∙_}
+-- What is left to ask, asked from here, is the whole: the loop of proofs/Loops.antt in base.
+use Prim.Native.Nat.{_-_}
+use mathlib.Core.Path.{_≡_}
+use mathlib.Core.Bool.{true}
 use native.Mathlib.Omega.{arith}
 use borrow.Author.Needs.{needs}
 use lib.ListN.{length}
-use lib.Seq.{slice}
 use Rattle.base.specs.Lists.{any}
 use Rattle.base.proofs.Cases.{cases}
 use Rattle.base.proofs.Walks.{owned}
-use Rattle.base.proofs.Loops.{any-stop, any-on, any-over}
+use Rattle.base.proofs.Loops.{Left, any-left, stops, goes-on, ends}
 use Rattle.chassis.specs.Channels.{no-bridge}
 use Rattle.chassis.specs.Tables.{is-on-one-bus, bridges-of, a-bridge-on-one-bus}
 use Rattle.chassis.proofs.Counts.{counts}
@@ -17,7 +17,7 @@ use Rattle.chassis.proofs.tables.a_bridge_on_one_bus.Statement.{stateme
 use Rattle.chassis.proofs.tables.a_bridge_on_one_bus.Tie as tie
 
 abbrev Inv-loop : tie.InvT-loop
-Inv-loop t n i₀ i = any is-on-one-bus (slice i (t .bridges) (t .pairs)) ≡ any is-on-one-bus (bridges-of t)
+Inv-loop t n i₀ i = Left true (λ _. is-on-one-bus) (t .pairs) (t .bridges) i (any is-on-one-bus (bridges-of t))
 
 abbrev μ-loop : tie.MeasureT-loop
 μ-loop t n i₀ i = t .bridges - i
@@ -26,7 +26,10 @@ cast-n : tie.Need-cast-n Inv-loop μ-loop
 cast-n c = search needs
 
 loop-holds : tie.Need-loop-holds Inv-loop μ-loop
-loop-holds c = refl
+loop-holds c =
+    let t = c .args .t1 in
+    let long : length (t .pairs) ≡ 15 = search owned in
+    any-left is-on-one-bus (t .pairs) (t .bridges) 0 (omega (arith, counts t (c .pre)))
 
 mul-is-on-one-bus : tie.Need-mul-is-on-one-bus Inv-loop μ-loop
 mul-is-on-one-bus c = search needs
@@ -39,12 +42,7 @@ is-on-one-bus-requires c κs = search needs
 
 returns : tie.Need-returns Inv-loop μ-loop
 unfolding a-bridge-on-one-bus
-returns c =
-    let a = c .before .before .before .before .before .args in
-    let l = c .before .before .before .before .loop in
-    let n : length (a .t1 .pairs) ≡ 15 = search owned in
-    let k : a .t1 .bridges ≤ length (a .t1 .pairs) = omega (arith, counts (a .t1) (c .before .before .before .before .before .pre)) in
-    any-stop is-on-one-bus no-bridge (a .t1 .pairs) (a .t1 .bridges) (l .i) (search needs) k (search cases) ∙ l .inv
+returns c = stops no-bridge (c .before .before .before .before .loop .inv) (search needs) (search cases)
 
 add-i : tie.Need-add-i Inv-loop μ-loop
 add-i c = search needs
@@ -53,19 +51,11 @@ loop-less : tie.Need-loop-less Inv-loop μ-loop
 loop-less c = search needs
 
 loop-again : tie.Need-loop-again Inv-loop μ-loop
-loop-again c =
-    let a = c .before .before .before .before .before .args in
-    let l = c .before .before .before .before .loop in
-    let n : length (a .t1 .pairs) ≡ 15 = search owned in
-    let k : a .t1 .bridges ≤ length (a .t1 .pairs) = omega (arith, counts (a .t1) (c .before .before .before .before .before .pre)) in
-    any-on is-on-one-bus no-bridge (a .t1 .pairs) (a .t1 .bridges) (l .i) (search needs) k (search cases) ∙ l .inv
+loop-again c = goes-on no-bridge (c .before .before .before .before .loop .inv) (search needs) (search cases)
 
 returns-2 : tie.Need-returns-2 Inv-loop μ-loop
 unfolding a-bridge-on-one-bus
-returns-2 c =
-    let a = c .before .before .args in
-    let l = c .before .loop in
-    sym (any-over is-on-one-bus (l .i) (a .t1 .bridges) (a .t1 .pairs) (search needs)) ∙ l .inv
+returns-2 c = ends (c .before .loop .inv) (search needs)
 
 pub a-bridge-on-one-bus-spec : {M : Type 1} → statement M
 a-bridge-on-one-bus-spec =

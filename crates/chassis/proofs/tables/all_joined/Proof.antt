@@ -5,7 +5,7 @@ use mathlib.Core.Path.{_≡_, sym, _∙_}
 use native.Mathlib.Omega.{arith}
 use borrow.Author.Needs.{needs}
 use Rattle.base.specs.Lists.{all, from-to}
-use Rattle.base.proofs.Cases.{cases}
+use Rattle.base.proofs.Cases.{by-call-not, by-call-so}
 use Rattle.base.proofs.Loops.{all-from-stop, all-from-on, all-from-over}
 use Rattle.chassis.specs.Numbers.{bus}
 use Rattle.chassis.specs.Ladders.{share-label}
@@ -36,7 +36,7 @@ returns : tie.Need-returns Inv-loop μ-loop
 returns c =
     let s = c .before .before .before .before .before in
     let l = c .before .before .before .loop in
-    all-from-stop (λ b. share-label (s .args .l .now) (s .args .t .bridges) (bus b) (bus 0)) (s .args .t .buses) (l .a) (search needs) (search cases)
+    all-from-stop (λ b. share-label (s .args .l .now) (s .args .t .bridges) (bus b) (bus 0)) (s .args .t .buses) (l .a) (search needs) (by-call-so _ _ (c .before .share-label .ensures) (c .if1 .taken))
     ∙ l .inv ∙ joined-by-labels (s .args .t) (s .pre .0) (s .args .l .now) (s .pre .1)
 
 add-a : tie.Need-add-a Inv-loop μ-loop
@@ -49,7 +49,7 @@ loop-again : tie.Need-loop-again Inv-loop μ-loop
 loop-again c =
     let s = c .before .before .before .before .before in
     let l = c .before .before .before .loop in
-    all-from-on (λ b. share-label (s .args .l .now) (s .args .t .bridges) (bus b) (bus 0)) (s .args .t .buses) (l .a) (search needs) (search cases)
+    all-from-on (λ b. share-label (s .args .l .now) (s .args .t .bridges) (bus b) (bus 0)) (s .args .t .buses) (l .a) (search needs) (by-call-not _ _ (c .before .share-label .ensures) (c .if1 .left))
     ∙ l .inv
 
 returns-2 : tie.Need-returns-2 Inv-loop μ-loop

@@ -1,15 +1,15 @@
 -- Each bridge's two buses are in the table.
--- What is left to test, tested from here, is the whole: `all-stop`, `all-on` and `all-over`.
-use Prim.Native.Nat.{_-_, _≤_}
-use mathlib.Core.Path.{_≡_, refl, sym, _∙_}
+-- What is left to ask, asked from here, is the whole: the loop of proofs/Loops.antt in base.
+use Prim.Native.Nat.{_-_}
+use mathlib.Core.Path.{_≡_}
+use mathlib.Core.Bool.{false}
 use native.Mathlib.Omega.{arith}
 use borrow.Author.Needs.{needs}
 use lib.ListN.{length}
-use lib.Seq.{slice}
 use Rattle.base.specs.Lists.{all}
 use Rattle.base.proofs.Cases.{cases}
 use Rattle.base.proofs.Walks.{owned}
-use Rattle.base.proofs.Loops.{all-stop, all-on, all-over}
+use Rattle.base.proofs.Loops.{Left, all-left, stops, goes-on, ends}
 use Rattle.chassis.specs.Channels.{no-bridge}
 use Rattle.chassis.specs.Tables.{has-both-buses, bridges-of}
 use Rattle.chassis.proofs.Counts.{counts}
@@ -17,7 +17,7 @@ use Rattle.chassis.proofs.tables.bridges_are_there.Statement.{statement
 use Rattle.chassis.proofs.tables.bridges_are_there.Tie as tie
 
 abbrev Inv-loop : tie.InvT-loop
-Inv-loop t n i₀ i = all (has-both-buses t) (slice i (t .bridges) (t .pairs)) ≡ all (has-both-buses t) (bridges-of t)
+Inv-loop t n i₀ i = Left false (λ _. has-both-buses t) (t .pairs) (t .bridges) i (all (has-both-buses t) (bridges-of t))
 
 abbrev μ-loop : tie.MeasureT-loop
 μ-loop t n i₀ i = t .bridges - i
@@ -26,7 +26,10 @@ cast-n : tie.Need-cast-n Inv-loop μ-loop
 cast-n c = search needs
 
 loop-holds : tie.Need-loop-holds Inv-loop μ-loop
-loop-holds c = refl
+loop-holds c =
+    let t = c .args .t1 in
+    let long : length (t .pairs) ≡ 15 = search owned in
+    all-left (has-both-buses t) (t .pairs) (t .bridges) 0 (omega (arith, counts t (c .pre)))
 
 mul-has-both-buses : tie.Need-mul-has-both-buses Inv-loop μ-loop
 mul-has-both-buses c = search needs
@@ -38,12 +41,7 @@ has-both-buses-requires : tie.Need-has-both-buses-requires Inv-loop μ-loop
 has-both-buses-requires c κs = search needs
 
 returns : tie.Need-returns Inv-loop μ-loop
-returns c =
-    let a = c .before .before .before .before .before .args in
-    let l = c .before .before .before .before .loop in
-    let n : length (a .t1 .pairs) ≡ 15 = search owned in
-    let k : a .t1 .bridges ≤ length (a .t1 .pairs) = omega (arith, counts (a .t1) (c .before .before .before .before .before .pre)) in
-    all-stop (has-both-buses (a .t1)) no-bridge (a .t1 .pairs) (a .t1 .bridges) (l .i) (search needs) k (search cases) ∙ l .inv
+returns c = stops no-bridge (c .before .before .before .before .loop .inv) (search needs) (search cases)
 
 add-i : tie.Need-add-i Inv-loop μ-loop
 add-i c = search needs
@@ -52,18 +50,10 @@ loop-less : tie.Need-loop-less Inv-loop μ-loop
 loop-less c = search needs
 
 loop-again : tie.Need-loop-again Inv-loop μ-loop
-loop-again c =
-    let a = c .before .before .before .before .before .args in
-    let l = c .before .before .before .before .loop in
-    let n : length (a .t1 .pairs) ≡ 15 = search owned in
-    let k : a .t1 .bridges ≤ length (a .t1 .pairs) = omega (arith, counts (a .t1) (c .before .before .before .before .before .pre)) in
-    all-on (has-both-buses (a .t1)) no-bridge (a .t1 .pairs) (a .t1 .bridges) (l .i) (search needs) k (search cases) ∙ l .inv
+loop-again c = goes-on no-bridge (c .before .before .before .before .loop .inv) (search needs) (search cases)
 
 returns-2 : tie.Need-returns-2 Inv-loop μ-loop
-returns-2 c =
-    let a = c .before .before .args in
-    let l = c .before .loop in
-    sym (all-over (has-both-buses (a .t1)) (l .i) (a .t1 .bridges) (a .t1 .pairs) (search needs)) ∙ l .inv
+returns-2 c = ends (c .before .loop .inv) (search needs)
 
 pub bridges-are-there-spec : {M : Type 1} → statement M
 bridges-are-there-spec =

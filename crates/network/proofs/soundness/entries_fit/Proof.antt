@@ -1,14 +1,14 @@
 -- Every entry of a channel fits.
--- What is left to test, tested from here, is the whole: `all-stop`, `all-on` and `all-over`.
+-- What is left to ask, asked from here, is the whole: the loop of proofs/Loops.antt in base.
 use Prim.Native.Nat.{_-_}
-use mathlib.Core.Path.{_≡_, refl, sym, _∙_}
+use mathlib.Core.Path.{_≡_}
+use mathlib.Core.Bool.{false}
 use native.Mathlib.Omega.{arith}
 use borrow.Author.Needs.{needs}
 use lib.ListN.{length}
-use lib.Seq.{slice}
 use Rattle.base.specs.Lists.{all}
 use Rattle.base.proofs.Walks.{owned}
-use Rattle.base.proofs.Loops.{all-stop, all-on, all-over}
+use Rattle.base.proofs.Loops.{Left, all-left, stops, goes-on, ends}
 use Rattle.base.proofs.Cases.{cases}
 use Rattle.queue.specs.Entries.{zero-entry}
 use Rattle.queue.specs.Packing.{live}
@@ -18,14 +18,16 @@ use Rattle.network.proofs.soundness.entries_fit.Statement.{statement}
 use Rattle.network.proofs.soundness.entries_fit.Tie as tie
 
 abbrev Inv-loop : tie.InvT-loop
-Inv-loop t begins n c count i₀ i =
-    all (fit (counting t begins) n) (slice i (c .count) (c .entries)) ≡ all (fit (counting t begins) n) (live c)
+Inv-loop t begins n c count i₀ i = Left false (λ _. fit (counting t begins) n) (c .entries) (c .count) i (all (fit (counting t begins) n) (live c))
 
 abbrev μ-loop : tie.MeasureT-loop
 μ-loop t begins n c count i₀ i = c .count - i
 
 loop-holds : tie.Need-loop-holds Inv-loop μ-loop
-loop-holds c = refl
+loop-holds c =
+    let a = c .args in
+    let long : length (a .t4 .entries) ≡ 24 = search owned in
+    all-left (fit (counting (a .t) (a .begins)) (a .n)) (a .t4 .entries) (a .t4 .count) 0 (omega arith)
 
 mul-x : tie.Need-mul-x Inv-loop μ-loop
 mul-x c = search needs
@@ -37,11 +39,7 @@ fits-requires : tie.Need-fits-requires Inv-loop μ-loop
 fits-requires c κs = search needs
 
 returns : tie.Need-returns Inv-loop μ-loop
-returns c =
-    let a = c .before .before .before .before .before .args in
-    let l = c .before .before .before .before .loop in
-    let n : length (a .t4 .entries) ≡ 24 = search owned in
-    all-stop (fit (counting (a .t) (a .begins)) (a .n)) zero-entry (a .t4 .entries) (a .t4 .count) (l .i) (search needs) (omega arith) (search cases) ∙ l .inv
+returns c = stops zero-entry (c .before .before .before .before .loop .inv) (search needs) (search cases)
 
 add-i : tie.Need-add-i Inv-loop μ-loop
 add-i c = search needs
@@ -50,17 +48,10 @@ loop-less : tie.Need-loop-less Inv-loop μ-loop
 loop-less c = search needs
 
 loop-again : tie.Need-loop-again Inv-loop μ-loop
-loop-again c =
-    let a = c .before .before .before .before .before .args in
-    let l = c .before .before .before .before .loop in
-    let n : length (a .t4 .entries) ≡ 24 = search owned in
-    all-on (fit (counting (a .t) (a .begins)) (a .n)) zero-entry (a .t4 .entries) (a .t4 .count) (l .i) (search needs) (omega arith) (search cases) ∙ l .inv
+loop-again c = goes-on zero-entry (c .before .before .before .before .loop .inv) (search needs) (search cases)
 
 returns-2 : tie.Need-returns-2 Inv-loop μ-loop
-returns-2 c =
-    let a = c .before .before .args in
-    let l = c .before .loop in
-    sym (all-over (fit (counting (a .t) (a .begins)) (a .n)) (l .i) (a .t4 .count) (a .t4 .entries) (search needs)) ∙ l .inv
+returns-2 c = ends (c .before .loop .inv) (search needs)
 
 pub entries-fit-spec : {M : Type 1} → statement M
 entries-fit-spec =

@@ -1,15 +1,14 @@
 -- `is_sound` is `sound`, for any declared state.
--- What is left of the channels, tested from here, is the whole; each return is a law of proofs/Testing.antt.
+-- What is left of the channels, asked from here, is the whole (the loop of proofs/Loops.antt in base); each return is a law of proofs/Testing.antt.
 use Prim.Native.Nat.{_-_}
-use mathlib.Core.Path.{_≡_, refl, sym, _∙_}
-use mathlib.Core.Bool.{true}
+use mathlib.Core.Path.{_≡_, sym, _∙_}
+use mathlib.Core.Bool.{true, false}
 use native.Mathlib.Omega.{arith}
 use borrow.Author.Needs.{needs}
-use lib.ListN.{length, drop}
 use Rattle.base.specs.Lists.{all-from}
 use Rattle.base.proofs.Cases.{by-call-not, by-call-so}
 use Rattle.base.proofs.Walks.{owned}
-use Rattle.base.proofs.Loops.{cells-stop, cells-on, cells-over}
+use Rattle.base.proofs.Loops.{Left, cells-left, stops, goes-on, ends}
 use Rattle.chassis.specs.Tables.{table-passes}
 use Rattle.chassis.proofs.Asking.{answered-passes, answered-refused}
 use Rattle.network.specs.Shapes.{no-channel}
@@ -20,7 +19,7 @@ use Rattle.network.proofs.soundness.is_sound.Tie as tie
 
 abbrev Inv-loop : tie.InvT-loop
 Inv-loop s t begins n₀ n =
-    all-from n (sound-channel (s .table) (s .begins)) (drop n (s .channels)) ≡ all-from 0 (sound-channel (s .table) (s .begins)) (s .channels)
+    Left false (sound-channel (s .table) (s .begins)) (s .channels) 62 n (all-from 0 (sound-channel (s .table) (s .begins)) (s .channels))
 
 abbrev μ-loop : tie.MeasureT-loop
 μ-loop s t begins n₀ n = 62 - n
@@ -42,7 +41,9 @@ passes : (c : tie.After-enum-told Inv-loop μ-loop) → table-passes (c .before 
 passes c = answered-passes _ (sym (c .before .before .table-answer .ensures) ∙ c .enum-told .given .1)
 
 loop-holds : tie.Need-loop-holds Inv-loop μ-loop
-loop-holds c = refl
+loop-holds c =
+    let s = c .before .before .before .before .before .args .t1 in
+    cells-left (s .channels) 62 0 (search owned) (sound-channel (s .table) (s .begins))
 
 cast-i : tie.Need-cast-i Inv-loop μ-loop
 cast-i c = search needs
@@ -59,10 +60,8 @@ is-sound-channel-requires c κs = (passes (c .before .before .before .before), o
 returns-2 : tie.Need-returns-2 Inv-loop μ-loop
 returns-2 c =
     let s = c .before .before .before .before .before .before .before .before .before .before .args .t1 in
-    let l = c .before .before .before .before .loop in
-    let n : length (s .channels) ≡ 62 = search owned in
     bad-channel s (passes (c .before .before .before .before .before .before))
-    (cells-stop (sound-channel (s .table) (s .begins)) (s .channels) (l .n) no-channel (omega arith) (by-call-so _ _ (c .before .is-sound-channel .ensures) (c .if1 .taken)) ∙ l .inv)
+    (stops no-channel (c .before .before .before .before .loop .inv) (search needs) (by-call-so _ _ (c .before .is-sound-channel .ensures) (c .if1 .taken)))
 
 add-n : tie.Need-add-n Inv-loop μ-loop
 add-n c = search needs
@@ -71,11 +70,7 @@ loop-less : tie.Need-loop-less Inv-loop μ-loop
 loop-less c = search needs
 
 loop-again : tie.Need-loop-again Inv-loop μ-loop
-loop-again c =
-    let s = c .before .before .before .before .before .before .before .before .before .before .args .t1 in
-    let l = c .before .before .before .before .loop in
-    let n : length (s .channels) ≡ 62 = search owned in
-    cells-on (sound-channel (s .table) (s .begins)) (s .channels) (l .n) no-channel (omega arith) (by-call-not _ _ (c .before .is-sound-channel .ensures) (c .if1 .left)) ∙ l .inv
+loop-again c = goes-on no-channel (c .before .before .before .before .loop .inv) (search needs) (by-call-not _ _ (c .before .is-sound-channel .ensures) (c .if1 .left))
 
 are-sound-counts-requires : tie.Need-are-sound-counts-requires Inv-loop μ-loop
 are-sound-counts-requires c κs = search needs
@@ -83,10 +78,8 @@ are-sound-counts-requires c κs = search needs
 returns-3 : tie.Need-returns-3 Inv-loop μ-loop
 returns-3 c =
     let s = c .before .before .before .before .before .before .before .before .args .t1 in
-    let l = c .before .before .loop in
-    let n : length (s .channels) ≡ 62 = search owned in
     c .are-sound-counts .ensures
-    ∙ by-counts s (passes (c .before .before .before .before)) (sym (l .inv) ∙ cells-over (sound-channel (s .table) (s .begins)) (s .channels) (l .n) (omega arith))
+    ∙ by-counts s (passes (c .before .before .before .before)) (sym (ends (c .before .before .loop .inv) (search needs)))
 
 pub is-sound-spec : {M : Type 1} → statement M
 is-sound-spec =

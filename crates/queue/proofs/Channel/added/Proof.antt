@@ -1,5 +1,6 @@
 -- `Channel::added` is added-to.
 -- Below 24 the definition takes its first branch, else its second: the test of the code is the test of the definition.
+use mathlib.Core.Path.{refl}
 use borrow.Author.Needs.{needs}
 use borrow.Author.Tests.{lt-ltb, le-ltb}
 use Rattle.queue.specs.Methods.{added-to}
@@ -17,7 +18,7 @@ add-self c = search needs
 
 returns : tie.Need-returns
 unfolding added-to
-returns c = rw (lt-ltb _ 24 (c .if1 .taken))
+returns c = rw (lt-ltb _ 24 (c .if1 .taken)) refl
 
 returns-2 : tie.Need-returns-2
 unfolding added-to

@@ -3,19 +3,21 @@
 use borrow.Author.Needs.{needs}
 use Prim.Native.Nat.{_+_, _-_, _≤_}
 use native.Mathlib.Omega.{arith}
-use mathlib.Core.Path.{_≡_, sym, _∙_}
+use mathlib.Core.Path.{sym, _∙_}
 use mathlib.Core.Logic.{⊎-elim}
-use lib.ListN.{drop}
+use lib.ListN.{getD}
 use Rattle.base.specs.Lists.{count}
 use Rattle.base.proofs.Walks.{owned}
+use Rattle.queue.specs.Entries.{zero-entry}
 use Rattle.queue.specs.Queues.{filling}
 use Rattle.queue.specs.Packing.{live}
-use Rattle.queue.proofs.Turns.{on, over}
+use Rattle.queue.proofs.Plainly.{filling-turn}
+use Rattle.queue.proofs.Turns.{Ahead, further, over}
 use Rattle.queue.proofs.Channel.filling.Statement.{statement}
 use Rattle.queue.proofs.Channel.filling.Tie as tie
 
 abbrev Inv-loop : tie.InvT-loop
-Inv-loop kind self n k₀ i₀ k i = (k ≤ i) × (k + filling kind (drop i (live self)) ≡ filling kind (live self))
+Inv-loop kind self n k₀ i₀ k i = (k ≤ i) × Ahead (λ _ l. k + filling kind l) self i (filling kind (live self))
 
 abbrev μ-loop : tie.MeasureT-loop
 μ-loop kind self n k₀ i₀ k i = n - i
@@ -24,7 +26,7 @@ places-requires : tie.Need-places-requires Inv-loop μ-loop
 places-requires c κs = search needs
 
 loop-holds : tie.Need-loop-holds Inv-loop μ-loop
-loop-holds c = search needs
+loop-holds c = (search needs, record { long = search owned; rest = search needs })
 
 mul-x : tie.Need-mul-x Inv-loop μ-loop
 mul-x c = search needs
@@ -45,22 +47,18 @@ loop-less : tie.Need-loop-less Inv-loop μ-loop
 loop-less c = search needs
 
 loop-again : tie.Need-loop-again Inv-loop μ-loop
-unfolding filling count
 loop-again c =
-    let a = c .before .before .before .before .before .before .args .t1 in
+    let a = c .before .before .before .before .before .before .args in
     let l = c .before .before .before .before .loop in
-    let turn = rw (on a (l .i) (search owned) (omega arith)) at (l .inv .1) in
+    let turn = filling-turn (a .kind) (getD (a .t1 .entries) (l .i) zero-entry) in
     ⊎-elim
-    (λ w. (omega (arith, w .1), omega (arith, w .1, rw (sym (c .before .is-kind .ensures) ∙ w .0 .taken) at turn)))
-    (λ w. (omega (arith, w .1), omega (arith, w .1, rw (sym (c .before .is-kind .ensures) ∙ w .0 .left) at turn)))
+    (λ w. (omega (arith, w .1), further (l .inv .1) (search needs) (λ m. omega (arith, w .1, rw (sym (c .before .is-kind .ensures) ∙ w .0 .taken) at (turn m)))))
+    (λ w. (omega (arith, w .1), further (l .inv .1) (search needs) (λ m. omega (arith, w .1, rw (sym (c .before .is-kind .ensures) ∙ w .0 .left) at (turn m)))))
     (c .if1 .came)
 
 returns : tie.Need-returns Inv-loop μ-loop
 unfolding filling count
-returns c =
-    let a = c .before .before .before .args .t1 in
-    let l = c .before .loop in
-    omega (arith, rw (over a (l .i) (search owned) (omega arith)) at (l .inv .1))
+returns c = omega (arith, over (c .before .loop .inv .1) (search needs))
 
 pub filling-spec : {M : Type 1} → statement M
 filling-spec =

@@ -2,19 +2,17 @@
 -- Invariant: what is left has the same answer as all; no C was passed.
 use borrow.Author.Needs.{needs}
 use Prim.Native.Nat.{_-_}
-use native.Mathlib.Omega.{arith}
-use mathlib.Core.Path.{_≡_, sym, _∙_}
-use lib.ListN.{drop}
+use mathlib.Core.Path.{refl, sym, _∙_}
 use Rattle.base.specs.Lists.{find}
 use Rattle.base.proofs.Walks.{owned}
 use Rattle.queue.specs.Queues.{first-C}
 use Rattle.queue.specs.Packing.{live}
-use Rattle.queue.proofs.Turns.{on, over}
+use Rattle.queue.proofs.Turns.{Ahead, here, further, over}
 use Rattle.queue.proofs.Channel.first_c.Statement.{statement}
 use Rattle.queue.proofs.Channel.first_c.Tie as tie
 
 abbrev Inv-loop : tie.InvT-loop
-Inv-loop t self n i₀ i = first-C t (drop i (live self)) ≡ first-C t (live self)
+Inv-loop t self n i₀ i = Ahead (λ _. first-C t) self i (first-C t (live self))
 
 abbrev μ-loop : tie.MeasureT-loop
 μ-loop t self n i₀ i = n - i
@@ -23,7 +21,7 @@ places-requires : tie.Need-places-requires Inv-loop μ-loop
 places-requires c κs = search needs
 
 loop-holds : tie.Need-loop-holds Inv-loop μ-loop
-loop-holds c = search needs
+loop-holds c = record { long = search owned; rest = refl }
 
 mul-x : tie.Need-mul-x Inv-loop μ-loop
 mul-x c = search needs
@@ -39,10 +37,7 @@ is-named-requires c κs = search needs
 
 returns : tie.Need-returns Inv-loop μ-loop
 unfolding first-C find
-returns c =
-    let a = c .before .before .before .before .before .before .before .args .t1 in
-    let l = c .before .before .before .before .before .loop in
-    c .is-named .ensures ∙ (rw (on a (l .i) (search owned) (omega arith), sym (c .before .before .is-kind .ensures) ∙ c .before .if1 .taken) at (l .inv))
+returns c = c .is-named .ensures ∙ (rw (sym (c .before .before .is-kind .ensures) ∙ c .before .if1 .taken) at (here (c .before .before .before .before .before .loop .inv) (search needs)))
 
 add-i : tie.Need-add-i Inv-loop μ-loop
 add-i c = search needs
@@ -52,17 +47,11 @@ loop-less c = search needs
 
 loop-again : tie.Need-loop-again Inv-loop μ-loop
 unfolding first-C find
-loop-again c =
-    let a = c .before .before .before .before .before .before .args .t1 in
-    let l = c .before .before .before .before .loop in
-    rw (on a (l .i) (search owned) (omega arith), sym (c .before .is-kind .ensures) ∙ c .if1 .left) at (l .inv)
+loop-again c = further (c .before .before .before .before .loop .inv) (search needs) (λ l. rw (sym (c .before .is-kind .ensures) ∙ c .if1 .left))
 
 returns-2 : tie.Need-returns-2 Inv-loop μ-loop
 unfolding first-C find
-returns-2 c =
-    let a = c .before .before .before .args .t1 in
-    let l = c .before .loop in
-    rw (over a (l .i) (search owned) (omega arith)) at (l .inv)
+returns-2 c = over (c .before .loop .inv) (search needs)
 
 pub first-c-spec : {M : Type 1} → statement M
 first-c-spec =

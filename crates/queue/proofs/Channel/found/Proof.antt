@@ -2,20 +2,17 @@
 -- Invariant: the search of what is left, from place i on, is the search of all.
 use borrow.Author.Needs.{needs}
 use Prim.Native.Nat.{_-_}
-use native.Mathlib.Omega.{arith}
-use mathlib.Core.Path.{_≡_, refl, sym, _∙_}
+use mathlib.Core.Path.{refl, sym, _∙_}
 use native.Mathlib.Numerals.{add-one}
-use lib.ListN.{drop}
 use Rattle.base.proofs.Walks.{owned}
 use Rattle.queue.specs.Entries.{is-named}
-use Rattle.queue.specs.Packing.{live}
 use Rattle.queue.specs.Methods.{place-from, place-of}
-use Rattle.queue.proofs.Turns.{on, over}
+use Rattle.queue.proofs.Turns.{Ahead, here, further, over}
 use Rattle.queue.proofs.Channel.found.Statement.{statement}
 use Rattle.queue.proofs.Channel.found.Tie as tie
 
 abbrev Inv-loop : tie.InvT-loop
-Inv-loop kind t self n i₀ i = place-from i (is-named kind t) (drop i (live self)) ≡ place-of kind t self
+Inv-loop kind t self n i₀ i = Ahead (λ j. place-from j (is-named kind t)) self i (place-of kind t self)
 
 abbrev μ-loop : tie.MeasureT-loop
 μ-loop kind t self n i₀ i = n - i
@@ -25,7 +22,7 @@ places-requires c κs = search needs
 
 loop-holds : tie.Need-loop-holds Inv-loop μ-loop
 unfolding place-of
-loop-holds c = refl
+loop-holds c = record { long = search owned; rest = refl }
 
 mul-x : tie.Need-mul-x Inv-loop μ-loop
 mul-x c = search needs
@@ -38,10 +35,7 @@ is-named-requires c κs = search needs
 
 returns : tie.Need-returns Inv-loop μ-loop
 unfolding place-from
-returns c =
-    let a = c .before .before .before .before .before .before .args .t1 in
-    let l = c .before .before .before .before .loop in
-    rw (on a (l .i) (search owned) (omega arith), sym (c .before .is-named .ensures) ∙ c .if1 .taken) at (l .inv)
+returns c = rw (sym (c .before .is-named .ensures) ∙ c .if1 .taken) at (here (c .before .before .before .before .loop .inv) (search needs))
 
 add-i : tie.Need-add-i Inv-loop μ-loop
 add-i c = search needs
@@ -51,17 +45,11 @@ loop-less c = search needs
 
 loop-again : tie.Need-loop-again Inv-loop μ-loop
 unfolding place-from
-loop-again c =
-    let a = c .before .before .before .before .before .before .args .t1 in
-    let l = c .before .before .before .before .loop in
-    rw (on a (l .i) (search owned) (omega arith), sym (c .before .is-named .ensures) ∙ c .if1 .left, ← add-one (l .i)) at (l .inv)
+loop-again c = further (c .before .before .before .before .loop .inv) (search needs) (λ l. rw (sym (c .before .is-named .ensures) ∙ c .if1 .left, add-one))
 
 returns-2 : tie.Need-returns-2 Inv-loop μ-loop
 unfolding place-from
-returns-2 c =
-    let a = c .before .before .before .args .t1 in
-    let l = c .before .loop in
-    rw (over a (l .i) (search owned) (omega arith)) at (l .inv)
+returns-2 c = over (c .before .loop .inv) (search needs)
 
 pub found-spec : {M : Type 1} → statement M
 found-spec =

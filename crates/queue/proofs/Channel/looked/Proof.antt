@@ -2,20 +2,20 @@
 -- Invariant: the look at what is left, told whether a P was passed, is the look at all.
 use borrow.Author.Needs.{needs}
 use Prim.Native.Nat.{_-_}
-use native.Mathlib.Omega.{arith}
-use mathlib.Core.Path.{_≡_, sym, _∙_}
+use mathlib.Core.Path.{refl, sym, _∙_}
 use mathlib.Core.Logic.{⊎-elim}
 use mathlib.Core.Bool.{true, false}
-use lib.ListN.{drop}
+use lib.ListN.{getD}
 use Rattle.base.proofs.Walks.{owned}
+use Rattle.queue.specs.Entries.{zero-entry}
 use Rattle.queue.specs.Packing.{live}
 use Rattle.queue.specs.Changes.{look-of}
-use Rattle.queue.proofs.Turns.{on, over, seen, look-here, look-past, look-none}
+use Rattle.queue.proofs.Turns.{Ahead, here, further, over, seen, look-here, look-past, look-none}
 use Rattle.queue.proofs.Channel.looked.Statement.{statement}
 use Rattle.queue.proofs.Channel.looked.Tie as tie
 
 abbrev Inv-loop : tie.InvT-loop
-Inv-loop kind t self n behind₀ i₀ behind i = seen behind (look-of kind t (drop i (live self))) ≡ look-of kind t (live self)
+Inv-loop kind t self n behind₀ i₀ behind i = Ahead (λ _ l. seen behind (look-of kind t l)) self i (look-of kind t (live self))
 
 abbrev μ-loop : tie.MeasureT-loop
 μ-loop kind t self n behind₀ i₀ behind i = n - i
@@ -24,7 +24,7 @@ places-requires : tie.Need-places-requires Inv-loop μ-loop
 places-requires c κs = search needs
 
 loop-holds : tie.Need-loop-holds Inv-loop μ-loop
-loop-holds c = search needs
+loop-holds c = record { long = search owned; rest = refl }
 
 mul-x : tie.Need-mul-x Inv-loop μ-loop
 mul-x c = search needs
@@ -37,9 +37,8 @@ is-named-requires c κs = search needs
 
 returns : tie.Need-returns Inv-loop μ-loop
 returns c =
-    let a = c .before .before .before .before .before .before .args .t1 in
     let l = c .before .before .before .before .loop in
-    look-here _ _ (l .behind) _ _ (sym (c .before .is-named .ensures) ∙ c .if1 .taken) ∙ (rw (on a (l .i) (search owned) (omega arith)) at (l .inv))
+    look-here _ _ (l .behind) _ _ (sym (c .before .is-named .ensures) ∙ c .if1 .taken) ∙ here (l .inv) (search needs)
 
 is-kind-requires : tie.Need-is-kind-requires Inv-loop μ-loop
 is-kind-requires c κs = search needs
@@ -52,13 +51,13 @@ loop-less c = search needs
 
 loop-again : tie.Need-loop-again Inv-loop μ-loop
 loop-again c =
-    let a = c .before .before .before .before .before .before .before .before .args .t1 in
+    let a = c .before .before .before .before .before .before .before .before .args in
     let l = c .before .before .before .before .before .before .loop in
+    let x = getD (a .t1 .entries) (l .i) zero-entry in
     let named = sym (c .before .before .before .is-named .ensures) ∙ c .before .before .if1 .left in
-    let turn = rw (on a (l .i) (search owned) (omega arith)) at (l .inv) in
     ⊎-elim
-    (λ w. look-past _ _ (l .behind) _ true _ _ named (sym (c .before .is-kind .ensures) ∙ w .0 .taken) (w .1) ∙ turn)
-    (λ w. look-past _ _ (l .behind) _ false _ _ named (sym (c .before .is-kind .ensures) ∙ w .0 .left) (w .1) ∙ turn)
+    (λ w. further (l .inv) (search needs) (λ m. look-past (a .kind) (a .t) (l .behind) _ true x m named (sym (c .before .is-kind .ensures) ∙ w .0 .taken) (w .1)))
+    (λ w. further (l .inv) (search needs) (λ m. look-past (a .kind) (a .t) (l .behind) _ false x m named (sym (c .before .is-kind .ensures) ∙ w .0 .left) (w .1)))
     (c .if2 .came)
 
 none-requires : tie.Need-none-requires Inv-loop μ-loop
@@ -66,9 +65,8 @@ none-requires c κs = search needs
 
 returns-2 : tie.Need-returns-2 Inv-loop μ-loop
 returns-2 c =
-    let a = c .before .before .before .before .args .t1 in
     let l = c .before .before .loop in
-    rw (c .none .ensures) (look-none _ _ (l .behind) ∙ (rw (over a (l .i) (search owned) (omega arith)) at (l .inv)))
+    rw (c .none .ensures) (look-none _ _ (l .behind) ∙ over (l .inv) (search needs))
 
 pub looked-spec : {M : Type 1} → statement M
 looked-spec =
