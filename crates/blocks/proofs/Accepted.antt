@@ -9,6 +9,7 @@ use native.Mathlib.Omega.{arith}
 use lib.ListN.{length, length-take, length-drop}
 use lib.Dec.{eqb}
 use borrow.Author.Tests.{eqb-true, leb-true, not-false}
+use Rattle.base.specs.Lists.{or-else}
 use Rattle.base.specs.Grounds.{refusal}
 use Rattle.base.proofs.Logic.{split, and-true}
 use Rattle.base.proofs.Grounds.{clear}
@@ -19,7 +20,7 @@ use Rattle.chassis.specs.Answers.{table-answer}
 use Rattle.blocks.specs.declared.BlockAnswer.{BlockAnswer}
 use Rattle.blocks.specs.declared.BlockAnswer.the-variants.{Refused, Network, Steps, Tick}
 use Rattle.blocks.specs.Blocks.{block-kind, block-place, record-count, kind-place-count-are-right, block-grounds, record-bytes}
-use Rattle.blocks.specs.Answers.{accepted-as, answer-by, network-by, block-answer}
+use Rattle.blocks.specs.Answers.{block-number, accepted-as, answer-by, network-by, block-answer}
 
 abbrev pub Accepted : BlockAnswer → Type 0
 Accepted (Refused n) = ⊥
@@ -78,3 +79,14 @@ network-answer T stray = by-table (refusal (table-grounds T stray))
     by-table : (o : Option ℕ) → network-by (table.answer-by o) ≡ answer-by o Network
     by-table none = refl
     by-table (some n) = refl
+
+-- an answer's number is that of the first ground that holds, and 0 where none does
+by-block : (o : Option ℕ) (a : BlockAnswer) → block-number a ≡ 0 → block-number (answer-by o a) ≡ or-else 0 o
+by-block none a h = h
+by-block (some n) a h = refl
+
+pub block-numbered : (place : ℕ) (b : List ℕ) → block-number (block-answer place b) ≡ or-else 0 (refusal (block-grounds place b))
+unfolding block-answer
+block-numbered place b =
+    by-block (refusal (block-grounds place b)) (accepted-as b)
+    (split (eqb (block-kind b) 1) (λ t. rw t) (λ f. split (eqb (block-kind b) 2) (λ t. rw (f, t)) (λ g. rw (f, g))))

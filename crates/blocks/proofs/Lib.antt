@@ -4,4 +4,5 @@ pub mod Accepted
 pub mod Decimals
 pub mod Texts
 pub mod Stepping
+pub mod Ticking
 pub mod Running

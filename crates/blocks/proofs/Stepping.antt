@@ -10,14 +10,14 @@ use Rattle.base.specs.Lists.{parts}
 use Rattle.network.specs.declared.State.{State}
 use Rattle.base.proofs.Writing.{length-parts}
 use Rattle.events.specs.declared.Decoded.{Decoded}
-use Rattle.events.specs.Records.{decoded}
+use Rattle.events.specs.Records.{decoded, records}
 use Rattle.events.specs.Steps.{step, record-step, refusal-number, answer-value}
-use Rattle.events.specs.Plays.{played-state, played-refusals, played-values, decoded-records}
+use Rattle.steps.specs.Plays.{played-state, played-refusals, played-values}
 use Rattle.events.proofs.SoundStays.{Right, record-step-right, step-is}
 use Rattle.blocks.specs.Blocks.{byte, record-count, record-bytes, block-records}
 use Rattle.blocks.proofs.Accepted.{length-record-bytes}
 use Rattle.blocks.specs.Lines.{e, text, texts}
-use Rattle.blocks.specs.Logs.{steps}
+use Rattle.blocks.specs.Logs.{steps, value-lines}
 use Rattle.blocks.specs.Plays.{step-texts}
 
 module _ (block : ℕ) (r fs vs : List ℕ) (n i : ℕ) where
@@ -135,15 +135,15 @@ module _ (block : ℕ) (b fs vs more-f more-v : List ℕ) (s : State) (w : Right
   pub how-many-records : length r / 8 ≡ record-count b
   how-many-records = let l = length-record-bytes b long few in omega arith
 
-  same-records : decoded-records r ≡ map decoded (parts (record-count b) 8 r)
-  unfolding decoded-records
+  same-records : records r ≡ map decoded (parts (record-count b) 8 r)
+  unfolding records
   same-records = ap (λ (k : ℕ). map decoded (parts k 8 r)) how-many-records
 
   ds-length : length (map decoded (parts (record-count b) 8 r)) ≡ record-count b
   ds-length = length-map (parts (record-count b) 8 r) decoded ∙ length-parts (record-count b) 8 r
 
-  pub block-stepped : fs ≡ played-refusals s (decoded-records r) ++ more-f → vs ≡ played-values s (decoded-records r) ++ more-v
-      → ((steps block 0 s (block-records b)) .state ≡ played-state s (decoded-records r)) × (texts ((steps block 0 s (block-records b)) .lines) ≡ step-texts block r fs vs (record-count b) 0)
+  pub block-stepped : fs ≡ played-refusals s (records r) ++ more-f → vs ≡ played-values s (records r) ++ more-v
+      → ((steps block 0 s (block-records b)) .state ≡ played-state s (records r)) × (texts ((steps block 0 s (block-records b)) .lines) ≡ step-texts block r fs vs (record-count b) 0)
   unfolding block-records
   block-stepped f v =
       let k = record-count b in
@@ -153,3 +153,21 @@ module _ (block : ℕ) (b fs vs more-f more-v : List ℕ) (s : State) (w : Right
       (holds-front fs (played-refusals s ds) more-f k (f ∙ ap (λ (x : List Decoded). played-refusals s x ++ more-f) same-records) (refusals-length s ds ∙ ds-length))
       (holds-front vs (played-values s ds) more-v k (v ∙ ap (λ (x : List Decoded). played-values s x ++ more-v) same-records) (values-length s ds ∙ ds-length)) in
       (q .state ∙ ap (played-state s) (sym same-records), q .lines)
+
+-- ---- a tick's lines
+
+module _ (block : ℕ) (r fs vs : List ℕ) (clean : (j : ℕ) → getD fs j 0 ≡ 0) where
+  value-texts : (k i : ℕ) (out : List ℕ) → length out ≡ k → Holds vs i k out → texts (value-lines block i (parts k 8 (drop (8 * i) r)) out) ≡ step-texts block r fs vs k i
+  unfolding value-lines texts step-texts parts
+  value-texts zero i out n h = refl
+  value-texts (suc k) i [] n h = absurd (omega arith)
+  value-texts (suc k) i (v ∷ out) n h =
+      rw (first-byte i r, drop-eight i r, clean i, holds-first vs i k v out h)
+      (ap (λ (l : List ℕ). text (e block i (byte r (8 * i)) 0 v) ++ l) (value-texts k (suc i) out (omega arith) (holds-rest vs i k v out h)))
+
+  -- the `e` lines of an accepted tick block, from the values that playing it left
+  pub tick-texts : (b out more : List ℕ) → r ≡ record-bytes b → length out ≡ record-count b → vs ≡ out ++ more → texts (value-lines block 0 (block-records b) out) ≡ step-texts block r fs vs (record-count b) 0
+  unfolding block-records
+  tick-texts b out more isr n isv =
+      ap (λ (l : List ℕ). texts (value-lines block 0 (parts (record-count b) 8 l) out)) (sym isr)
+      ∙ value-texts (record-count b) 0 out n (holds-front vs out more (record-count b) isv n)

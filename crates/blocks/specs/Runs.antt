@@ -1,5 +1,5 @@
--- One block of an input: what it prints, the state behind it, and whether the input is read on. (Ticks are not played yet: a
--- tick block prints nothing and ends the reading.)
+-- One block of an input, by its answer: what it prints, the state behind it, and whether the input is read on. That this is
+-- what `block-played` says: proofs/Running.antt.
 use Prim.Native.Nat.{ℕ}
 use mathlib.Core.Bool.{Bool, true, false}
 use mathlib.Core.List.{List, [], _∷_}
@@ -9,23 +9,23 @@ use Rattle.blocks.specs.declared.BlockAnswer.{BlockAnswer}
 use Rattle.blocks.specs.declared.BlockAnswer.the-variants.{Refused, Network, Steps, Tick}
 use Rattle.blocks.specs.Blocks.{table-of, block-records}
 use Rattle.blocks.specs.Lines.{Line, stop}
-use Rattle.blocks.specs.Logs.{steps, net-line}
+use Rattle.blocks.specs.Logs.{steps, tick-lines, tick-of, net-line}
 
 module _ (place : ℕ) (s : State) (b : List ℕ) where
   abbrev pub run-lines : BlockAnswer → List Line
   run-lines (Refused n) = stop place n ∷ []
   run-lines Network = net-line (table-of b) ∷ []
   run-lines Steps = (steps place 0 s (block-records b)) .lines
-  run-lines Tick = []
+  run-lines Tick = tick-lines place (block-records b) (tick-of s b)
 
   abbrev pub run-state : BlockAnswer → State
   run-state (Refused n) = s
   run-state Network = pack (empty-net (table-of b))
   run-state Steps = (steps place 0 s (block-records b)) .state
-  run-state Tick = s
+  run-state Tick = tick-of s b .state
 
 abbrev pub goes-on : BlockAnswer → Bool
 goes-on (Refused n) = false
 goes-on Network = true
 goes-on Steps = true
-goes-on Tick = false
+goes-on Tick = true

@@ -68,6 +68,7 @@ fn put_line(out: &mut [u8], at: usize, word: &[u8], ns: &[u32]) -> usize
 pub fn put_net(out: &mut [u8], at: usize, buses: u8, bridges: u8, agents: u8) -> usize
     requires { ⌜ at + 40 ≤ length (now out) ⌝ }
     ensures { λ r. ⌜ Written (now (out .entry)) at (text (net buses bridges agents)) (now (out .exit)) r ⌝ }
+    ensures { λ r. ⌜ r ≤ at + 40 ⌝ }
 {
     put_line(
         out,
@@ -89,6 +90,7 @@ pub fn put_e(
 ) -> usize
     requires { ⌜ at + 40 ≤ length (now out) ⌝ }
     ensures { λ r. ⌜ Written (now (out .entry)) at (text (e block place kind refusal value)) (now (out .exit)) r ⌝ }
+    ensures { λ r. ⌜ r ≤ at + 40 ⌝ }
 {
     put_line(
         out,
@@ -102,6 +104,7 @@ pub fn put_e(
 pub fn put_t(out: &mut [u8], at: usize, block: u32, refusal: u8, first: u8, other: u8) -> usize
     requires { ⌜ at + 40 ≤ length (now out) ⌝ }
     ensures { λ r. ⌜ Written (now (out .entry)) at (text (t block refusal first other)) (now (out .exit)) r ⌝ }
+    ensures { λ r. ⌜ r ≤ at + 40 ⌝ }
 {
     put_line(
         out,
@@ -115,6 +118,7 @@ pub fn put_t(out: &mut [u8], at: usize, block: u32, refusal: u8, first: u8, othe
 pub fn put_stop(out: &mut [u8], at: usize, block: u32, number: u8) -> usize
     requires { ⌜ at + 40 ≤ length (now out) ⌝ }
     ensures { λ r. ⌜ Written (now (out .entry)) at (text (stop block number)) (now (out .exit)) r ⌝ }
+    ensures { λ r. ⌜ r ≤ at + 40 ⌝ }
 {
     put_line(out, at, b"stop", &[block, number as u32])
 }
@@ -123,6 +127,7 @@ pub fn put_stop(out: &mut [u8], at: usize, block: u32, number: u8) -> usize
 pub fn put_end(out: &mut [u8], at: usize, entries: u32) -> usize
     requires { ⌜ at + 40 ≤ length (now out) ⌝ }
     ensures { λ r. ⌜ Written (now (out .entry)) at (text (end entries)) (now (out .exit)) r ⌝ }
+    ensures { λ r. ⌜ r ≤ at + 40 ⌝ }
 {
     put_line(out, at, b"end", &[entries])
 }

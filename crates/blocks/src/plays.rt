@@ -1,4 +1,4 @@
-// A block of single steps played, and its lines written into a lent buffer.
+// A block of single steps, or a tick, played, and its lines written into a lent buffer.
 use crate::BlockAnswer;
 use crate::frames::block_answer;
 use crate::frames::record_bytes;
@@ -6,18 +6,23 @@ use crate::frames::table_of;
 use crate::lines::put_e;
 use crate::lines::put_net;
 use crate::lines::put_stop;
-use events::plays::play;
+use crate::lines::put_t;
+use cycles::plays::is_accepted;
+use cycles::plays::play_tick;
 use network::State;
 use network::empty;
+use steps::plays::play;
+use ticks::TickAnswer;
 ghost use mathlib.Core.Path.{_≡_};
 ghost use mathlib.Core.Bool.{true};
 ghost use Prim.Native.Nat.{_+_, _*_, _/_, _≤_};
 ghost use lib.ListN.{length};
 ghost use Rattle.network.specs.Soundness.{sound};
+ghost use Rattle.ticks.specs.Ticks.{tick-number, tick-record, tick-other};
 ghost use Rattle.blocks.specs.Answers.{block-answer};
 ghost use Rattle.blocks.specs.Blocks.{record-count, block-records};
 ghost use Rattle.blocks.specs.Lines.{texts};
-ghost use Rattle.blocks.specs.Logs.{steps, entries-left};
+ghost use Rattle.blocks.specs.Logs.{steps, tick-lines, tick-of, entries-left};
 ghost use Rattle.blocks.specs.Plays.{step-texts};
 ghost use Rattle.blocks.specs.Runs.{run-lines, run-state, goes-on};
 ghost use Rattle.blocks.specs.Writing.{Written};
@@ -34,6 +39,7 @@ fn put_steps(
 ) -> usize
     requires { ⌜ (at + 40 * n ≤ length (now out)) × (n ≤ 63) × (8 * n ≤ length (now r)) × (n ≤ length (now refusals)) × (n ≤ length (now values)) ⌝ }
     ensures { λ q. ⌜ Written (now (out .entry)) at (step-texts block (now (r .entry)) (now (refusals .entry)) (now (values .entry)) n 0) (now (out .exit)) q ⌝ }
+    ensures { λ q. ⌜ q ≤ at + 40 * n ⌝ }
 {
     let mut end = at;
     let mut i: usize = 0;
@@ -56,6 +62,7 @@ pub fn play_steps(s: State, place: u32, b: &[u8], out: &mut [u8], at: usize) -> 
     requires { ⌜ (sound s ≡ true) × (length (now b) ≡ 512) × (record-count (now b) ≤ 63) × (at + 2520 ≤ length (now out)) ⌝ }
     ensures { λ q. ⌜ q .state ≡ (steps place 0 s (block-records (now (b .entry)))) .state ⌝ }
     ensures { λ q. ⌜ Written (now (out .entry)) at (texts ((steps place 0 s (block-records (now (b .entry)))) .lines)) (now (out .exit)) (q .end) ⌝ }
+    ensures { λ q. ⌜ q .end ≤ at + 2560 ⌝ }
 {
     let n = b[1] as usize;
     let r = record_bytes(b);
@@ -63,6 +70,72 @@ pub fn play_steps(s: State, place: u32, b: &[u8], out: &mut [u8], at: usize) -> 
     let mut values: [u16; 63] = [0; 63];
     let state = play(s, r, &mut refusals, &mut values);
     let end = put_steps(out, at, place, r, &refusals, &values, n);
+    BlockRan { state, end }
+}
+
+// Document 01's number, record and other record of a tick's answer.
+pub fn tick_number(a: TickAnswer) -> u8
+    ensures { λ r. ⌜ r ≡ tick-number a ⌝ }
+{
+    match a {
+        TickAnswer::Accepted => 0,
+        TickAnswer::Refused { number, record: _ } => number,
+        TickAnswer::Conflict {
+            record: _,
+            other: _,
+        } => 15,
+    }
+}
+
+pub fn tick_record(a: TickAnswer) -> u8
+    ensures { λ r. ⌜ r ≡ tick-record a ⌝ }
+{
+    match a {
+        TickAnswer::Accepted => 0,
+        TickAnswer::Refused { number: _, record } => record,
+        TickAnswer::Conflict { record, other: _ } => record,
+    }
+}
+
+pub fn tick_other(a: TickAnswer) -> u8
+    ensures { λ r. ⌜ r ≡ tick-other a ⌝ }
+{
+    match a {
+        TickAnswer::Accepted => 0,
+        TickAnswer::Refused {
+            number: _,
+            record: _,
+        } => 0,
+        TickAnswer::Conflict { record: _, other } => other,
+    }
+}
+
+// A tick block: its `t` line and, where the tick is accepted, an `e` line for each record.
+pub fn play_cycle(s: State, place: u32, b: &[u8], out: &mut [u8], at: usize) -> BlockRan
+    requires { ⌜ (sound s ≡ true) × (length (now b) ≡ 512) × (record-count (now b) ≤ 63) × (at + 2560 ≤ length (now out)) ⌝ }
+    ensures { λ q. ⌜ q .state ≡ (tick-of s (now (b .entry))) .state ⌝ }
+    ensures { λ q. ⌜ Written (now (out .entry)) at (texts (tick-lines place (block-records (now (b .entry))) (tick-of s (now (b .entry))))) (now (out .exit)) (q .end) ⌝ }
+    ensures { λ q. ⌜ q .end ≤ at + 2560 ⌝ }
+{
+    let n = b[1] as usize;
+    let r = record_bytes(b);
+    let none: [u8; 63] = [0; 63];
+    let mut values: [u16; 63] = [0; 63];
+    let q = play_tick(s, r, &mut values);
+    let a = q.answer;
+    let state = q.state;
+    let end = put_t(
+        out,
+        at,
+        place,
+        tick_number(a),
+        tick_record(a),
+        tick_other(a),
+    );
+    if !is_accepted(a) {
+        return BlockRan { state, end };
+    }
+    let end = put_steps(out, end, place, r, &none, &values, n);
     BlockRan { state, end }
 }
 
@@ -74,10 +147,11 @@ pub struct BlockRun {
 }
 
 pub fn run_block(s: State, place: u32, b: &[u8], out: &mut [u8]) -> BlockRun
-    requires { ⌜ (2520 ≤ length (now out)) × (block-answer place (now b) ≡ BlockAnswer.Steps → sound s ≡ true) ⌝ }
+    requires { ⌜ (2560 ≤ length (now out)) × ((place ≡ 0 → ⊥) → sound s ≡ true) ⌝ }
     ensures { λ q. ⌜ q .going ≡ goes-on (block-answer place (now (b .entry))) ⌝ }
     ensures { λ q. ⌜ q .state ≡ run-state place s (now (b .entry)) (block-answer place (now (b .entry))) ⌝ }
     ensures { λ q. ⌜ Written (now (out .entry)) 0 (texts (run-lines place s (now (b .entry)) (block-answer place (now (b .entry))))) (now (out .exit)) (q .end) ⌝ }
+    ensures { λ q. ⌜ q .end ≤ 2560 ⌝ }
 {
     let answer = block_answer(place, b);
     match answer {
@@ -108,11 +182,15 @@ pub fn run_block(s: State, place: u32, b: &[u8], out: &mut [u8]) -> BlockRun
                 end: r.end,
             }
         }
-        BlockAnswer::Tick => BlockRun {
-            going: false,
-            state: s,
-            end: 0,
-        },
+        BlockAnswer::Tick => {
+            let r = play_cycle(s, place, b, out, 0);
+            let state = r.state;
+            BlockRun {
+                going: true,
+                state,
+                end: r.end,
+            }
+        }
     }
 }
 

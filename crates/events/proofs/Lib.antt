@@ -1,12 +1,9 @@
 -- Laws of one step.
+pub mod WrongModels
+pub mod TakenSteps
+pub mod BeginNumbers
+pub mod EveryStepMoves
 pub mod CloseAtHand
 pub mod Kept
 pub mod SoundStays
-pub mod Completing
-pub mod Told
-pub mod CarriedOut
-pub mod Shown
-pub mod There
-pub mod Carried
-pub mod Playing
-pub mod Single
+pub mod FirstBegins

@@ -5,8 +5,3 @@ pub mod Grounds
 pub mod Effects
 pub mod Steps
 pub mod Reached
-pub mod Frames
-pub mod Plans
-pub mod Verdicts
-pub mod Sights
-pub mod Plays

@@ -1,9 +1,10 @@
 -- Eight record bytes to an event, and ground 1: kind, channel, master, target, number (two bytes, low first), two zero bytes.
-use Prim.Native.Nat.{ℕ, _+_, _*_}
+use Prim.Native.Nat.{ℕ, _+_, _*_, _/_}
 use mathlib.Core.Bool.{Bool, cond, _&&_}
-use mathlib.Core.List.{List}
-use lib.ListN.{getD}
+use mathlib.Core.List.{List, map}
+use lib.ListN.{length, getD}
 use lib.Dec.{eqb, ltb}
+use Rattle.base.specs.Lists.{parts}
 use Rattle.chassis.specs.declared.Agent.{Agent}
 use Rattle.chassis.specs.declared.Chan.{Chan}
 use Rattle.chassis.specs.Numbers.{agent, chan}
@@ -58,6 +59,10 @@ decoded b =
     cond (ltb (byte b 0) 4)
     (cond (begin-unused-zero b) (begin-event (byte b 0) (agent (byte b 2)) (agent (byte b 3))) Unfit)
     (cond (other-unused-zero b) (named-event (byte b 0) (chan (byte b 1)) (transaction-in b)) Unfit)
+
+-- the records of bytes, eight bytes each
+unfoldable pub records : List ℕ → List Decoded
+records b = map decoded (parts (length b / 8) 8 b)
 
 -- document 01's number of each kind
 abbrev pub kind-number : Event → ℕ

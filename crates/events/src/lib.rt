@@ -1,16 +1,9 @@
 // One step: an event is one of nine kinds, each with its own fields.
-pub mod frames;
-pub mod judges;
-pub mod plays;
 pub mod records;
-pub mod sights;
-pub mod steps;
 
 use chassis::Agent;
 use chassis::Chan;
-use network::Act;
 use network::State;
-use queue::Look;
 use queue::Transaction;
 
 pub enum Event {
@@ -74,33 +67,4 @@ pub enum Answer {
 pub struct Outcome {
     pub answer: Answer,
     pub state: State,
-}
-
-// A record with its numbers looked up in the table: refused with 1, 2 or 3, or an event whose channel and master are there.
-// A refused one points to channel 0 and agent 0, which every table has.
-pub struct Frame {
-    pub refusal: u8,
-    pub event: Event,
-    pub at: Chan,
-    pub master: Agent,
-}
-
-// What a judge is told of the other channels, as far as the event's kind asks it: whether the receiving channel is at its
-// limit (5), whether N1 holds the transaction's R (10), what the opposite of N1 shows of its C (10, 12, 14), whether the C is
-// the oldest (13).
-pub struct Sight {
-    pub full: bool,
-    pub waits: bool,
-    pub answer: Look,
-    pub oldest: bool,
-}
-
-// A judge's verdict: refused with a number, or what is to be done, up to three channels changed and perhaps a count raised.
-pub struct Plan {
-    pub refusal: u8,
-    pub value: u16,
-    pub raises: bool,
-    pub first: Act,
-    pub second: Act,
-    pub third: Act,
 }

@@ -8,11 +8,12 @@ use Rattle.base.specs.Grounds.{refusal}
 use Rattle.base.proofs.Logic.{there, none-some}
 use Rattle.network.specs.declared.State.{State}
 use Rattle.network.specs.Nets.{Net, view}
+use Rattle.events.specs.Records.{records}
 use Rattle.events.specs.declared.Decoded.{Decoded}
 use Rattle.events.specs.Steps.{record-grounds}
 use Rattle.ticks.specs.declared.TickAnswer.{TickAnswer}
 use Rattle.ticks.specs.declared.TickAnswer.the-variants.{Accepted, Refused, Conflict}
-use Rattle.ticks.specs.Ticks.{first-refused, first-pair, known, records, tick-grounds, judged, tick}
+use Rattle.ticks.specs.Ticks.{first-refused, first-pair, known, tick-grounds, judged, tick}
 
 -- each is accepted alone in s
 abbrev pub EachAlone : Net → List Decoded → Type 0

@@ -30,7 +30,7 @@ pub record Agreeing (s : Net) (es : List Event) : Type 0 where
 
 -- ---- after the first, the others are as they were
 
-rest-stands : (s : Net) → table-passes (s .table) ≡ true → (e : Event) (es : List Event) → Agreeing s (e ∷ es) → All (Again s (after s e)) es
+pub rest-stands : (s : Net) → table-passes (s .table) ≡ true → (e : Event) (es : List Event) → Agreeing s (e ∷ es) → All (Again s (after s e)) es
 rest-stands s h e es g =
     all-both (Accepted s) (Peaceful s e) (Again s (after s e)) es (λ f a n. diamond s h e f (g .alone .0) a n .still) (g .alone .1) (g .apart .0)
 

@@ -22,14 +22,14 @@ use Rattle.events.specs.declared.Event.{Event}
 use Rattle.events.specs.declared.Decoded.the-variants.{Known}
 use Rattle.events.specs.declared.Answer.the-variants as step-answer
 use Rattle.events.specs.declared.Outcome.{Outcome}
-use Rattle.events.specs.Records.{decoded}
+use Rattle.events.specs.Records.{decoded, records}
 use Rattle.events.specs.Grounds.{Accepted}
 use Rattle.events.specs.Effects.{value, after}
 use Rattle.events.specs.Steps.{unless, inner-step, record-step, step}
 use Rattle.events.proofs.SoundStays.{Right, sound-stays-sound, shaped-stays-shaped, step-is}
 use Rattle.ticks.specs.declared.TickAnswer.{TickAnswer}
 use Rattle.ticks.specs.declared.TickAnswer.the-variants as tick-answer
-use Rattle.ticks.specs.Ticks.{known, end-of, values-of, Ticked, ticked, records, tick-grounds, tick}
+use Rattle.ticks.specs.Ticks.{known, end-of, values-of, Ticked, ticked, tick-grounds, tick}
 use Rattle.ticks.proofs.OrderCannotMatter.{Played, at-end, one-more, Agreeing, in-listed-order, order-cannot-matter}
 use Rattle.ticks.proofs.Reordered.{Reordered}
 use Rattle.ticks.proofs.Searches.{refuses-none}

@@ -9,10 +9,11 @@ use mathlib.Core.Option.{none, some}
 use Rattle.base.specs.Grounds.{refusal}
 use Rattle.network.specs.declared.State.{State}
 use Rattle.network.specs.Nets.{view}
+use Rattle.events.specs.Records.{records}
 use Rattle.events.specs.declared.Event.{Event}
 use Rattle.ticks.specs.declared.TickAnswer.{TickAnswer}
 use Rattle.ticks.specs.declared.TickAnswer.the-variants.{Refused, Conflict}
-use Rattle.ticks.specs.Ticks.{records, tick-grounds, tick}
+use Rattle.ticks.specs.Ticks.{tick-grounds, tick}
 use Rattle.ticks.proofs.Searches.{LowestRefused, LowestPair}
 use Rattle.ticks.proofs.Verdicts.{AllAlone, Verdict, at-once, refused, conflicts, accepted, same-pair, verdict}
 

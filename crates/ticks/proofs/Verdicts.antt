@@ -12,6 +12,7 @@ use Rattle.base.proofs.Orders.{All, Pairwise}
 use Rattle.chassis.specs.Numbers.{agent}
 use Rattle.network.specs.declared.State.{State}
 use Rattle.network.specs.Nets.{Net, view}
+use Rattle.events.specs.Records.{records}
 use Rattle.events.specs.declared.Event.{Event}
 use Rattle.events.specs.declared.Event.the-variants.{BeginRead}
 use Rattle.events.specs.declared.Decoded.{Decoded}
@@ -21,7 +22,7 @@ use Rattle.ticks.specs.declared.TickAnswer.{TickAnswer}
 use Rattle.ticks.specs.declared.TickAnswer.the-variants.{Refused, Conflict}
 use Rattle.ticks.specs.declared.TickAnswer.the-variants as tick-answer
 use Rattle.ticks.specs.Conflicts.{conflict}
-use Rattle.ticks.specs.Ticks.{known, first-refused, first-pair, Ticked, held, ticked, records, tick-grounds, judged, tick}
+use Rattle.ticks.specs.Ticks.{known, first-refused, first-pair, Ticked, held, ticked, tick-grounds, judged, tick}
 use Rattle.ticks.proofs.Judged.{none-refused}
 use Rattle.ticks.proofs.Searches.{known-all, each-known, pair-none, LowestRefused, finds-refused, LowestPair, finds-pair}
 

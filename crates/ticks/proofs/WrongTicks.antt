@@ -25,7 +25,7 @@ use Rattle.events.specs.declared.Event.{Event}
 use Rattle.events.specs.declared.Event.the-variants.{BeginPosted, Post}
 use Rattle.events.specs.declared.Decoded.{Decoded}
 use Rattle.events.specs.declared.Decoded.the-variants.{Known, Unfit}
-use Rattle.events.specs.Records.{rest-is-zero, begin-unused-zero, other-unused-zero, decoded}
+use Rattle.events.specs.Records.{rest-is-zero, begin-unused-zero, other-unused-zero, decoded, records}
 use Rattle.events.specs.Grounds.{begin-grounds, named-grounds, grounds, Accepted}
 use Rattle.events.specs.Effects.{new-entry, effects, value, after}
 use Rattle.events.specs.Steps.{record-grounds}
@@ -33,7 +33,7 @@ use Rattle.ticks.specs.declared.TickAnswer.{TickAnswer}
 use Rattle.ticks.specs.declared.TickAnswer.the-variants as tick-answer
 use Rattle.ticks.specs.Footings.{footing}
 use Rattle.ticks.specs.Conflicts.{alike, clash, conflict}
-use Rattle.ticks.specs.Ticks.{known, end-of, values-of, first-refused, partner, first-pair, Ticked, ticked, records, tick-grounds, judged, tick}
+use Rattle.ticks.specs.Ticks.{known, end-of, values-of, first-refused, partner, first-pair, Ticked, ticked, tick-grounds, judged, tick}
 use Rattle.ticks.proofs.OrderCannotMatter.{Played, at-end, one-more, Agreeing}
 use Rattle.ticks.proofs.Searches.{refuses-none}
 use Rattle.ticks.proofs.Verdicts.{Tick, tick-by, alone, plays-by}

@@ -1,11 +1,10 @@
 -- The tick: 16, 18, 17; the lowest record refused alone in the starting state; the lowest conflicting pair; the end state.
 use Prim.Native.Nat.{ℕ, suc, _/_, _%_}
 use mathlib.Core.Bool.{Bool, true, false, not, _||_}
-use mathlib.Core.List.{List, [], _∷_, _++_, map}
+use mathlib.Core.List.{List, [], _∷_, _++_}
 use mathlib.Core.Option.{Option, none, some}
 use lib.ListN.{length, drop}
 use lib.Dec.{ltb, eqb}
-use Rattle.base.specs.Lists.{parts}
 use Rattle.base.specs.Grounds.{Ground, _when_, refusal}
 use Rattle.network.specs.declared.State.{State}
 use Rattle.network.specs.Nets.{Net, view, pack}
@@ -13,7 +12,7 @@ use Rattle.network.specs.Soundness.{sound}
 use Rattle.events.specs.declared.Event.{Event}
 use Rattle.events.specs.declared.Decoded.{Decoded}
 use Rattle.events.specs.declared.Decoded.the-variants.{Known, Unfit}
-use Rattle.events.specs.Records.{decoded}
+use Rattle.events.specs.Records.{records}
 use Rattle.events.specs.Steps.{record-grounds}
 use Rattle.events.specs.Effects.{after, value}
 use Rattle.ticks.specs.declared.TickAnswer.{TickAnswer}
@@ -85,10 +84,6 @@ ticked s out es = record {
   state = pack (end-of (view s) es);
   answers = values-of (view s) es ++ drop (length es) out;
 }
-
--- the records of the bytes, eight bytes each
-unfoldable pub records : List ℕ → List Decoded
-records b = map decoded (parts (length b / 8) 8 b)
 
 -- 16, 18, 17
 unfoldable pub tick-grounds : State → List ℕ → List ℕ → List Ground

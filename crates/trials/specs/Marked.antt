@@ -15,13 +15,13 @@ use Rattle.network.specs.Nets.{view, pack, empty-net}
 use Rattle.network.specs.Soundness as Soundness
 use Rattle.network.specs.Opening.{zero-state, opened}
 use Rattle.network.specs.Edits.{edit, edits}
-use Rattle.events.specs.Records.{rest-is-zero, begin-unused-zero, other-unused-zero, begin-event, named-event, decoded}
+use Rattle.events.specs.Records.{rest-is-zero, begin-unused-zero, other-unused-zero, begin-event, named-event, decoded, records}
 use Rattle.events.specs.Grounds.{begin-grounds, named-grounds, grounds}
 use Rattle.events.specs.Effects.{new-entry, effects, value, after}
 use Rattle.events.specs.Steps.{record-grounds, inner-step, step-grounds, step}
 use Rattle.ticks.specs.Footings.{footing}
 use Rattle.ticks.specs.Conflicts.{alike, clash, conflict}
-use Rattle.ticks.specs.Ticks.{first-refused, partner, first-pair, known, end-of, values-of, records, tick-grounds, judged, tick}
+use Rattle.ticks.specs.Ticks.{first-refused, partner, first-pair, known, end-of, values-of, tick-grounds, judged, tick}
 use Rattle.blocks.specs.Blocks.{weighed, check-is-right, all-zero, kind-place-count-are-right, bridge-records, table-of, stray-in-table, stray-behind-records, record-bytes, block-records, content-grounds, block-grounds}
 use Rattle.blocks.specs.Lines.{Line, net, e, t, stop, end}
 use Rattle.blocks.specs.Logs.{Ran, entries-left, steps, value-lines, tick-lines, block-played, blocks-played, cut, input-blocks, run}

@@ -11,130 +11,86 @@ use borrow.Fn.Kinds.{In}
 use borrow.Fn.PlainCycle.{Measures, is, falls, and}
 use Rattle.blocks.proofs.lines.put_decimal.Reads as put-decimal
 use Rattle.blocks.proofs.lines.put_decimal.Kinds as put-decimal-kinds
-use Rattle.blocks.proofs.lines.+put_decimal.Lts-put_decimal as put-decimal-lts
+use Rattle.blocks.proofs.lines.+put_decimal.Lts-put_decimal as lts
 use Rattle.blocks.proofs.lines.+put_decimal.{statement}
 use Rattle.blocks.proofs.lines.+put_decimal.Tie.{close}
 
-abbrev μ-put-decimal : Measures 1 put-decimal-kinds.ps ℕ
-μ-put-decimal κs a = a .1 .1 .0
+abbrev μ : Measures 1 put-decimal-kinds.ps ℕ
+μ κs a = a .1 .1 .0
 
-abbrev put-decimal-at : ℕ → In 1 put-decimal-kinds.ps
-put-decimal-at t =
-    and 1 put-decimal-kinds.ps (is 1 put-decimal-kinds.ps μ-put-decimal t) put-decimal.Pre
+module _ (t : ℕ) where
+  abbrev at : In 1 put-decimal-kinds.ps
+  at = and 1 put-decimal-kinds.ps (is 1 put-decimal-kinds.ps μ t) put-decimal.Pre
 
-abbrev put-decimal-below : ℕ → In 1 put-decimal-kinds.ps
-put-decimal-below t =
-    and 1 put-decimal-kinds.ps (falls 1 put-decimal-kinds.ps _<_ μ-put-decimal t) put-decimal.Pre
+  abbrev below : In 1 put-decimal-kinds.ps
+  below = and 1 put-decimal-kinds.ps (falls 1 put-decimal-kinds.ps _<_ μ t) put-decimal.Pre
 
-put-decimal-cast-out : (t : ℕ) → put-decimal-lts.Need-cast-out (
-  put-decimal-below t,
-  put-decimal.Post,
-) (put-decimal-at t) put-decimal.Post
-put-decimal-cast-out t c = search needs
+  abbrev claims : lts.Claims
+  claims = (below, put-decimal.Post)
 
-put-decimal-add-out : (t : ℕ) → put-decimal-lts.Need-add-out (
-  put-decimal-below t,
-  put-decimal.Post,
-) (put-decimal-at t) put-decimal.Post
-put-decimal-add-out t c = search needs
+  cast-out : lts.Need-cast-out claims at put-decimal.Post
+  cast-out c = search needs
 
-put-decimal-slice-write-out : (t : ℕ) → put-decimal-lts.Need-slice-write-out (
-  put-decimal-below t,
-  put-decimal.Post,
-) (put-decimal-at t) put-decimal.Post
-put-decimal-slice-write-out t c = omega (arith, ap length (decimal-one (c .before .before .args .n) (c .if1 .taken)))
+  add-out : lts.Need-add-out claims at put-decimal.Post
+  add-out c = search needs
 
-put-decimal-add-result : (t : ℕ) → put-decimal-lts.Need-add-result (
-  put-decimal-below t,
-  put-decimal.Post,
-) (put-decimal-at t) put-decimal.Post
-put-decimal-add-result t c = search needs
+  slice-write-out : lts.Need-slice-write-out claims at put-decimal.Post
+  slice-write-out c = omega (arith, ap length (decimal-one (c .before .before .args .n) (c .if1 .taken)))
 
-put-decimal-same-length : (t : ℕ) → put-decimal-lts.Need-same-length (
-  put-decimal-below t,
-  put-decimal.Post,
-) (put-decimal-at t) put-decimal.Post
-put-decimal-same-length t c = search needs
+  add-result : lts.Need-add-result claims at put-decimal.Post
+  add-result c = search needs
 
-put-decimal-returns : (t : ℕ) → put-decimal-lts.Need-returns (
-  put-decimal-below t,
-  put-decimal.Post,
-) (put-decimal-at t) put-decimal.Post
-put-decimal-returns t c =
-    let a = c .before .before .args in rw (decimal-one (a .n) (c .if1 .taken)) (written-one (a .out .now) (a .at) (48 + a .n))
+  same-length : lts.Need-same-length claims at put-decimal.Post
+  same-length c = search needs
 
-put-decimal-put-decimal-requires : (t : ℕ) → put-decimal-lts.Need-put-decimal-requires (
-  put-decimal-below t,
-  put-decimal.Post,
-) (put-decimal-at t) put-decimal.Post
-put-decimal-put-decimal-requires t c κs =
-    let longer = decimal-longer (c .before .before .before .args .n) (c .before .if1 .left) in (omega arith, omega (arith, longer))
+  returns : lts.Need-returns claims at put-decimal.Post
+  returns c = let a = c .before .before .args in rw (decimal-one (a .n) (c .if1 .taken)) (written-one (a .out .now) (a .at) (48 + a .n))
 
-put-decimal-cast-out-2 : (t : ℕ) → put-decimal-lts.Need-cast-out-2 (
-  put-decimal-below t,
-  put-decimal.Post,
-) (put-decimal-at t) put-decimal.Post
-put-decimal-cast-out-2 t c = search needs
+  put-decimal-requires : lts.Need-put-decimal-requires claims at put-decimal.Post
+  put-decimal-requires c κs =
+      let longer = decimal-longer (c .before .before .before .args .n) (c .before .if1 .left) in
+      (omega arith, omega (arith, longer))
 
-put-decimal-add-out-2 : (t : ℕ) → put-decimal-lts.Need-add-out-2 (
-  put-decimal-below t,
-  put-decimal.Post,
-) (put-decimal-at t) put-decimal.Post
-put-decimal-add-out-2 t c = search needs
+  cast-out-2 : lts.Need-cast-out-2 claims at put-decimal.Post
+  cast-out-2 c = search needs
 
--- there is room for the last digit
-room-left : (t : ℕ)
-    (c : put-decimal-lts.After-slice-known2 (put-decimal-below t, put-decimal.Post) (put-decimal-at t) put-decimal.Post)
-    → c .before .before .put-decimal .result < length (c .before .before .put-decimal .last .0)
-room-left t c =
-    let p = c .before .before .put-decimal .ensures in
-    let longer = decimal-longer (c .before .before .before .before .before .before .args .n) (c .before .before .before .before .if1 .left) in
-    omega (arith, longer, p .behind, written-length p)
+  add-out-2 : lts.Need-add-out-2 claims at put-decimal.Post
+  add-out-2 c = search needs
 
-put-decimal-slice-write-out-2 : (t : ℕ) → put-decimal-lts.Need-slice-write-out-2 (
-  put-decimal-below t,
-  put-decimal.Post,
-) (put-decimal-at t) put-decimal.Post
-put-decimal-slice-write-out-2 t c = room-left t c
+  -- there is room for the last digit
+  room-left : (c : lts.After-slice-known2 claims at put-decimal.Post) → c .before .before .put-decimal .result < length (c .before .before .put-decimal .last .0)
+  room-left c =
+      let p = c .before .before .put-decimal .ensures in
+      let longer = decimal-longer (c .before .before .before .before .before .before .args .n) (c .before .before .before .before .if1 .left) in
+      omega (arith, longer, p .behind, written-length p)
 
-put-decimal-add-result-2 : (t : ℕ) → put-decimal-lts.Need-add-result-2 (
-  put-decimal-below t,
-  put-decimal.Post,
-) (put-decimal-at t) put-decimal.Post
-put-decimal-add-result-2 t c = omega (arith, room-left t c)
+  slice-write-out-2 : lts.Need-slice-write-out-2 claims at put-decimal.Post
+  slice-write-out-2 c = room-left c
 
-put-decimal-same-length-2 : (t : ℕ) → put-decimal-lts.Need-same-length-2 (
-  put-decimal-below t,
-  put-decimal.Post,
-) (put-decimal-at t) put-decimal.Post
-put-decimal-same-length-2 t c = search needs
+  add-result-2 : lts.Need-add-result-2 claims at put-decimal.Post
+  add-result-2 c = omega (arith, room-left c)
 
-put-decimal-returns-2 : (t : ℕ) → put-decimal-lts.Need-returns-2 (
-  put-decimal-below t,
-  put-decimal.Post,
-) (put-decimal-at t) put-decimal.Post
-put-decimal-returns-2 t c =
-    let p = c .before .before .put-decimal in
-    rw (decimal-more (c .before .before .before .before .before .before .args .n) (c .before .before .before .before .if1 .left))
-    (written-on (p .ensures) (written-one (p .last .0) (p .result) _))
+  same-length-2 : lts.Need-same-length-2 claims at put-decimal.Post
+  same-length-2 c = search needs
+
+  returns-2 : lts.Need-returns-2 claims at put-decimal.Post
+  returns-2 c =
+      let p = c .before .before .put-decimal in
+      rw (decimal-more (c .before .before .before .before .before .before .args .n) (c .before .before .before .before .if1 .left))
+      (written-on (p .ensures) (written-one (p .last .0) (p .result) _))
 
 pub +put-decimal-spec : {M : Type 1} → statement M
-+put-decimal-spec = close μ-put-decimal λ t. put-decimal-lts.spec (
-  put-decimal-below t,
-  put-decimal.Post,
-)
-    (put-decimal-at t)
-    put-decimal.Post
-    (put-decimal-cast-out t)
-    (put-decimal-add-out t)
-    (put-decimal-slice-write-out t)
-    (put-decimal-add-result t)
-    (put-decimal-same-length t)
-    (put-decimal-returns t)
-    (put-decimal-put-decimal-requires t)
-    (put-decimal-cast-out-2 t)
-    (put-decimal-add-out-2 t)
-    (put-decimal-slice-write-out-2 t)
-    (put-decimal-add-result-2 t)
-    (put-decimal-same-length-2 t)
-    (put-decimal-returns-2 t)
++put-decimal-spec = close μ λ t. lts.spec (claims t) (at t) put-decimal.Post
+    (cast-out t)
+    (add-out t)
+    (slice-write-out t)
+    (add-result t)
+    (same-length t)
+    (returns t)
+    (put-decimal-requires t)
+    (cast-out-2 t)
+    (add-out-2 t)
+    (slice-write-out-2 t)
+    (add-result-2 t)
+    (same-length-2 t)
+    (returns-2 t)

@@ -24,7 +24,10 @@ same-length c = search needs
 
 returns : tie.Need-returns
 unfolding text
-returns c = c .before .before .put-line .ensures
+returns c =
+    let a = c .before .before .before .before .before .before .before .args in
+    let w = c .before .before .put-line .ensures in
+    (w, omega (arith, line-short (e (a .block) (a .place) (a .kind) (a .refusal) (a .value)) (omega arith, omega arith, omega arith, omega arith, omega arith), w .behind))
 
 pub put-e-spec : {M : Type 1} → statement M
 put-e-spec =

@@ -55,9 +55,12 @@ returns : tie.Need-returns
 returns c =
     let st = c .before .before .before .before .before .before .before .before .before .before .before .before .before .before .before in
     let rb = c .before .before .before .before .before .before .before .before .before .before .before .record-bytes .ensures in
-    let w : Right (st .args .s) = record { shaped = of-type (st .args .s) _ (st .good .0); is-sound = st .pre .0 } in
-    let q = block-stepped (st .args .place) (st .args .b .now) _ _ _ _ (st .args .s) w (st .pre .1) (st .pre .2) (rw rb at (c .before .before .before .before .before .before .before .before .play .ensures .1 .0)) (rw rb at (c .before .before .before .before .before .before .before .before .play .ensures .1 .1)) in
-    ((rw rb at (c .before .before .before .before .before .before .before .before .play .ensures .0)) ∙ sym (q .0), rw (q .1) (rw rb at (c .before .before .put-steps .ensures)))
+    let right : Right (st .args .s) = record { shaped = of-type (st .args .s) _ (st .good .0); is-sound = st .pre .0 } in
+    let q = block-stepped (st .args .place) (st .args .b .now) _ _ _ _ (st .args .s) right (st .pre .1) (st .pre .2) (rw rb at (c .before .before .before .before .before .before .before .before .play .ensures .1 .0)) (rw rb at (c .before .before .before .before .before .before .before .before .play .ensures .1 .1)) in
+    let w = c .before .before .put-steps .ensures in
+    let few = st .pre .2 in
+    let far = w .1 in
+    ((rw rb at (c .before .before .before .before .before .before .before .before .play .ensures .0)) ∙ sym (q .0), (rw (q .1) (rw rb at (w .0)), omega arith))
 
 pub play-steps-spec : {M : Type 1} → statement M
 play-steps-spec =

@@ -2,9 +2,8 @@
 -- The idea: what is left of the lines, written behind what is done, makes up all of them.
 use mathlib.Core.Path.{_≡_, subst}
 use Rattle.blocks.proofs.Stepping.{texts-turn, texts-over}
-use Rattle.blocks.proofs.Texts.{ToWrite, to-write-all, to-write-on, to-write-none, to-write-length, line-short}
+use Rattle.blocks.proofs.Texts.{ToWrite, to-write-all, to-write-on, to-write-none, to-write-length}
 use Rattle.blocks.specs.Plays.{step-texts}
-use Rattle.blocks.specs.Lines.{e, text}
 use native.Mathlib.Omega.{arith}
 use lib.ListN.{length, getD}
 use Prim.Native.Nat.{ℕ, suc, _≤_, _<_, _+_, _-_, _*_}
@@ -64,9 +63,8 @@ loop-again c =
     let l = c .before .before .before .before .before .before .before .before .loop in
     let a = c .before .before .before .before .before .before .before .before .before .before .before .before .before .args in
     let t = c .before .before .before .before .before .before .before .loop-test in
-    let w = c .before .before .put-e .ensures in
-    let k = w .behind in
-    let h = line-short (e (a .block) (l .i) (getD (a .r .now) (8 * l .i) 0) (getD (a .refusals .now) (l .i) 0) (getD (a .values .now) (l .i) 0)) (omega arith, omega arith, omega (arith, c .before .before .before .before .before .shared-slice-known4 .given (8 * l .i)), omega (arith, c .before .before .before .before .shared-slice-known5 .given (l .i)), omega (arith, c .before .before .before .shared-slice-known6 .given (l .i))) in
+    let w = c .before .before .put-e .ensures .0 in
+    let far = c .before .before .put-e .ensures .1 in
     (omega arith, omega arith, to-write-on (rw (texts-turn (a .block) (a .r .now) (a .refusals .now) (a .values .now) (a .n) (l .i) (omega arith)) at (l .inv .2)) w)
 
 same-length : tie.Need-same-length Inv-loop μ-loop
@@ -76,7 +74,9 @@ returns : tie.Need-returns Inv-loop μ-loop
 returns c =
     let l = c .before .loop in
     let a = c .before .before .before .before .before .before .args in
-    to-write-none (rw (texts-over (a .block) (a .r .now) (a .refusals .now) (a .values .now) (a .n) (l .i) (let t = c .loop-test in omega arith)) at (l .inv .2))
+    let w = l .inv .0 in
+    let e = l .inv .1 in
+    (to-write-none (rw (texts-over (a .block) (a .r .now) (a .refusals .now) (a .values .now) (a .n) (l .i) (let t = c .loop-test in omega arith)) at (l .inv .2)), omega arith)
 
 pub put-steps-spec : {M : Type 1} → statement M
 put-steps-spec =

@@ -1,0 +1,7 @@
+-- Laws of a tick played.
+pub mod Standing
+pub mod Pairing
+pub mod Carrying
+pub mod Judging
+pub mod CarriedTogether
+pub mod TickPlayed

@@ -1,0 +1,3 @@
+-- Laws of an input played block by block.
+pub mod Going
+pub mod WholeInput
