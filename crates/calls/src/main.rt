@@ -4,14 +4,19 @@
 use blocks::plays::tick_number;
 use blocks::plays::tick_other;
 use blocks::plays::tick_record;
+use chassis::Agent;
 use chassis::Bridge;
 use chassis::Bus;
 use chassis::Table;
 use cycles::plays::tick;
 use events::Answer;
+use events::Event;
+use events::Step;
 use network::State;
 use network::open;
+use network::soundness::is_sound;
 use network::zero;
+use steps::steps::inner_step;
 use steps::steps::step;
 
 // One bus with two agents.
@@ -61,6 +66,19 @@ fn step_line(name: &[u8], s: State, r: &[u8]) {
     let end = io::write_all(1, b"\n");
 }
 
+// The step for whoever holds a sound state: its caller asks 16 itself.
+fn inner_line(name: &[u8], s: State, x: Step) {
+    if !is_sound(s) {
+        return;
+    }
+    let q = inner_step(s, x);
+    let a = q.answer;
+    let ok = io::write_all(1, name);
+    put(number(a) as u64);
+    put(value(a) as u64);
+    let end = io::write_all(1, b"\n");
+}
+
 fn tick_line(name: &[u8], s: State, r: &[u8], answers: &mut [u16]) {
     let q = tick(s, r, answers);
     let a = q.answer;
@@ -87,6 +105,16 @@ fn main() {
     step_line(b"step of 9 bytes", s, &both[..9]);
     step_line(b"step of no bytes", s, &both[..0]);
     step_line(b"step of 8 bytes", s, &both[..8]);
+    let begin = Event::BeginPosted {
+        master: Agent(0),
+        target: Agent(1),
+    };
+    let x = Step {
+        block: 1,
+        place: 0,
+        event: begin,
+    };
+    inner_line(b"inner step of a begin", s, x);
     let mut one: [u16; 1] = [7; 1];
     let mut two: [u16; 2] = [7; 2];
     let mut three: [u16; 3] = [7; 3];

@@ -3,6 +3,7 @@
 use Prim.Native.Nat.{_-_, _≤_}
 use mathlib.Core.Path.{_≡_, sym, ap, _∙_}
 use borrow.Author.Needs.{needs}
+use borrow.Author.Tests.{le-ltb}
 use lib.ListN.{length}
 use lib.Seq.{slice}
 use Rattle.base.proofs.Cases.{cases}
@@ -26,7 +27,7 @@ returns c = search cases
 
 loop-holds : tie.Need-loop-holds Inv-loop μ-loop
 unfolding joined-in
-loop-holds c = search cases
+loop-holds c = rw (le-ltb 15 _ (c .if1 .left))
 
 cast-i : tie.Need-cast-i Inv-loop μ-loop
 cast-i c = search needs
