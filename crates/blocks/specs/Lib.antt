@@ -1,8 +1,3 @@
--- Blocks of 512 bytes: check and grounds; the log, line by line and as bytes; a whole input to its log.
+-- Blocks of 512 bytes: their bytes, their check and their grounds.
 pub mod Blocks
 pub mod Answers
-pub mod Lines
-pub mod Writing
-pub mod Logs
-pub mod Plays
-pub mod Runs

@@ -158,16 +158,6 @@ pub fn record_bytes(b: &[u8]) -> &[u8]
     &b[4..e]
 }
 
-// "Eight bytes each."
-pub fn record_at(r: &[u8], i: usize) -> &[u8]
-    requires { ⌜ 8 * i + 8 ≤ length (now r) ⌝ }
-    ensures { λ p. ⌜ now p ≡ take 8 (drop (8 * i) (now (r .entry))) ⌝ }
-{
-    let a = 8 * i;
-    let e = a + 8;
-    &r[a..e]
-}
-
 fn is_event_kind(kind: u8) -> bool
     ensures { λ r. ⌜ r ≡ (eqb kind 2 || eqb kind 3) ⌝ }
 {

@@ -1,7 +1,5 @@
-// Blocks of 512 bytes, and the log's text. The definitions stand in specs/.
+// Blocks of 512 bytes.
 pub mod frames;
-pub mod lines;
-pub mod plays;
 
 // What a block is found to be: refused with document 01's number, a table, single steps, or one tick. (The table itself is
 // read by `frames::table_of`.)

@@ -1,9 +1,6 @@
 // Calls of the library that no input of the program can make: unsound states (16), answer lists that are too short (17), record
 // bytes that are not whole or too many (18). Each line: what is called, the number, the value or the two records, then the lent
 // answer list, whose places are 7 before each call.
-use blocks::plays::tick_number;
-use blocks::plays::tick_other;
-use blocks::plays::tick_record;
 use chassis::Agent;
 use chassis::Bridge;
 use chassis::Bus;
@@ -12,6 +9,9 @@ use cycles::plays::tick;
 use events::Answer;
 use events::Event;
 use events::Step;
+use logs::plays::tick_number;
+use logs::plays::tick_other;
+use logs::plays::tick_record;
 use network::State;
 use network::open;
 use network::soundness::is_sound;

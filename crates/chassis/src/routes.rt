@@ -71,9 +71,9 @@ fn next_hop(t: Table, l: &[u8; 256], k: usize, a: Bus, b: Bus) -> NextPlace
     next_hop(t, l, g, a, near)
 }
 
-// "Until the out-bus is t's bus; then the next place is t itself."
-pub fn next_place(t: Table, n: Chan, a: Agent) -> NextPlace
-    requires { ⌜ (table-passes t ≡ true) × (has-chan t n ≡ true) × (has-agent t a ≡ true) ⌝ }
+// "Until the out-bus is t's bus; then the next place is t itself." The ladder is lent, made once for many questions.
+pub fn next_by(t: Table, l: &[u8; 256], n: Chan, a: Agent) -> NextPlace
+    requires { ⌜ (table-passes t ≡ true) × (now l ≡ ladder-of t) × (has-chan t n ≡ true) × (has-agent t a ≡ true) ⌝ }
     ensures { λ r. ⌜ r ≡ next-place t n a ⌝ }
 {
     let here = out_bus(t, n);
@@ -81,9 +81,17 @@ pub fn next_place(t: Table, n: Chan, a: Agent) -> NextPlace
     if here.0 == there.0 {
         return NextPlace::Target;
     }
-    let l = ladder(t);
     let k = t.bridges as usize;
-    next_hop(t, &l, k, here, there)
+    next_hop(t, l, k, here, there)
+}
+
+// One question.
+pub fn next_place(t: Table, n: Chan, a: Agent) -> NextPlace
+    requires { ⌜ (table-passes t ≡ true) × (has-chan t n ≡ true) × (has-agent t a ≡ true) ⌝ }
+    ensures { λ r. ⌜ r ≡ next-place t n a ⌝ }
+{
+    let l = ladder(t);
+    next_by(t, &l, n, a)
 }
 
 // The same question from any caller: 23 to 27 for the table, 2 for a number that is not in it.
@@ -122,9 +130,9 @@ fn crosses(t: Table, l: &[u8; 256], a: Bus, b: Bus, n: Chan) -> bool
     }
 }
 
-// The two ways out before the ladder is made are for speed: most questions end there.
-fn is_crossed(t: Table, m: Agent, a: Agent, n: Chan) -> bool
-    requires { ⌜ (table-passes t ≡ true) × (has-agent t m ≡ true) × (has-agent t a ≡ true) ⌝ }
+// No way crosses a master channel, and from a bus to itself there is none.
+fn is_crossed(t: Table, ways: &[u8; 256], m: Agent, a: Agent, n: Chan) -> bool
+    requires { ⌜ (table-passes t ≡ true) × (has-agent t m ≡ true) × (has-agent t a ≡ true) × (now ways ≡ ladder-of t) ⌝ }
     ensures { λ r. ⌜ r ≡ among n (bridge-channels t m a) ⌝ }
 {
     if is_master(t, n) {
@@ -135,28 +143,27 @@ fn is_crossed(t: Table, m: Agent, a: Agent, n: Chan) -> bool
     if here.0 == there.0 {
         return false;
     }
-    let l = ladder(t);
-    crosses(t, &l, here, there, n)
+    crosses(t, ways, here, there, n)
 }
 
 // "The way from agent m to agent t starts in channel m."
-pub fn on_the_way(t: Table, m: Agent, a: Agent, n: Chan) -> bool
-    requires { ⌜ (table-passes t ≡ true) × (has-agent t m ≡ true) × (has-agent t a ≡ true) ⌝ }
+pub fn on_the_way(t: Table, ways: &[u8; 256], m: Agent, a: Agent, n: Chan) -> bool
+    requires { ⌜ (table-passes t ≡ true) × (has-agent t m ≡ true) × (has-agent t a ≡ true) × (now ways ≡ ladder-of t) ⌝ }
     ensures { λ r. ⌜ r ≡ on-the-way t m a n ⌝ }
 {
     if n.0 == m.0 {
         return true;
     }
-    is_crossed(t, m, a, n)
+    is_crossed(t, ways, m, a, n)
 }
 
 // N is the opposite of a channel exactly where that channel is N's opposite: so N is turned round, not the way.
-pub fn opposes_the_way(t: Table, m: Agent, a: Agent, n: Chan) -> bool
-    requires { ⌜ (table-passes t ≡ true) × (has-agent t m ≡ true) × (has-agent t a ≡ true) × (n .0 < 255) ⌝ }
+pub fn opposes_the_way(t: Table, ways: &[u8; 256], m: Agent, a: Agent, n: Chan) -> bool
+    requires { ⌜ (table-passes t ≡ true) × (has-agent t m ≡ true) × (has-agent t a ≡ true) × (n .0 < 255) × (now ways ≡ ladder-of t) ⌝ }
     ensures { λ r. ⌜ r ≡ opposes-the-way t m a n ⌝ }
 {
     if is_master(t, n) {
         return false;
     }
-    is_crossed(t, m, a, opposite(t, n))
+    is_crossed(t, ways, m, a, opposite(t, n))
 }

@@ -23,9 +23,9 @@ use Rattle.events.specs.declared.Decoded.the-variants.{Known}
 use Rattle.events.specs.Grounds.{grounds, Accepted}
 use Rattle.events.specs.Effects.{effects, after, value}
 use Rattle.events.proofs.SoundStays.{Right, sound-stays-sound, shaped-stays-shaped}
-use Rattle.steps.specs.declared.Plan.{Plan}
-use Rattle.steps.specs.Frames.{master-number, is-begin, frame}
-use Rattle.steps.specs.Plans.{accepted-plan, plan-by, plan, record-plan, carried-out}
+use Rattle.judges.specs.declared.Plan.{Plan}
+use Rattle.sights.specs.Frames.{master-number, is-begin, frame}
+use Rattle.judges.specs.Plans.{accepted-plan, plan-by, plan, record-plan, carried-out}
 use Rattle.steps.proofs.CarriedOut.{Small, framed-master, small, small-after, done-elsewhere}
 use Rattle.steps.proofs.Carried.{accepted-value, accepted-raises, raised-value}
 use Rattle.ticks.specs.Ticks.{end-of}

@@ -1,5 +1,4 @@
 -- Laws of a tick played.
-pub mod Standing
 pub mod Pairing
 pub mod Carrying
 pub mod Judging

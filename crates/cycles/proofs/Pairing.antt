@@ -17,9 +17,9 @@ use Rattle.ticks.specs.declared.TickAnswer.the-variants.{Accepted, Conflict}
 use Rattle.ticks.specs.Footings.{Footing, footing}
 use Rattle.ticks.specs.Conflicts.{clash, conflict}
 use Rattle.ticks.specs.Ticks.{partner, first-pair}
-use Rattle.cycles.specs.declared.Foot.{Foot}
+use Rattle.feet.specs.declared.Foot.{Foot}
 use Rattle.cycles.specs.declared.Turn.{Turn}
-use Rattle.cycles.specs.Feet.{footing-of}
+use Rattle.feet.specs.Feet.{footing-of}
 use Rattle.cycles.specs.Turns.{answer-by, clash-partner, pair-or, clash-pair, footings}
 
 module _ (all : List Turn) (n : ℕ) where

@@ -7,8 +7,8 @@ use mathlib.Core.Option.{none, some}
 use native.Mathlib.Omega.{arith}
 use borrow.Author.Tests.{ne-eqb, eq-eqb, lt-ltb, le-ltb}
 use lib.Dec.{eqb, ltb}
-use lib.ListN.{length, getD, take, drop, length-map, length-take}
-use lib.Seq.{getD-take}
+use lib.ListN.{length, getD, take, drop, replicate, length-map}
+use lib.Seq.{getD-take, take-at}
 use Rattle.base.specs.Grounds.{refusal}
 use Rattle.base.proofs.Logic.{split, there, true-false}
 use Rattle.base.proofs.Orders.{All}
@@ -21,19 +21,22 @@ use Rattle.events.specs.declared.Decoded.the-variants.{Known}
 use Rattle.events.specs.Effects.{value}
 use Rattle.events.specs.Records.{records}
 use Rattle.events.proofs.SoundStays.{Right}
-use Rattle.steps.specs.Frames.{frame}
-use Rattle.steps.specs.Plans.{record-plan}
+use Rattle.sights.specs.Frames.{frame}
+use Rattle.judges.specs.Plans.{record-plan}
 use Rattle.steps.proofs.Carried.{table-of}
 use Rattle.steps.proofs.Playing.{how-many}
 use Rattle.steps.proofs.Shown.{points}
-use Rattle.steps.proofs.There.{one-of-62, one-of-32, plan-there}
+use Rattle.sights.proofs.Onward.{one-of-62, one-of-32}
+use Rattle.steps.proofs.There.{plan-there}
 use Rattle.ticks.specs.declared.TickAnswer.{TickAnswer}
 use Rattle.ticks.specs.declared.TickAnswer.the-variants.{Accepted, Refused, Conflict}
 use Rattle.ticks.specs.Ticks.{known, end-of, first-refused, first-pair, Ticked, held, ticked, tick-grounds, judged, tick}
-use Rattle.ticks.proofs.Searches.{known-all}
+use Rattle.ticks.proofs.Searches.{known-all, refuses-none}
+use Rattle.ticks.proofs.Judged.{none-refused}
 use Rattle.ticks.proofs.TickAcceptsExactly.{Orderly, Ends, tick-accepts-exactly, tick-ends, no-tick-ground}
 use Rattle.cycles.specs.declared.Turn.{Turn}
-use Rattle.cycles.specs.Turns.{no-turn, turn, is-accepted, judged-answer, Placed, all-turned, turn-values}
+use Rattle.cycles.specs.Turns.{no-turn, turn, turns-made, in-places, is-accepted, judged-answer, Placed, all-turned, turn-values}
+use Rattle.cycles.proofs.Judging.{all-made}
 use Rattle.cycles.proofs.CarriedTogether.{carried-together, values-together}
 
 pub accepted-so : (a : TickAnswer) → is-accepted a ≡ true → a ≡ Accepted
@@ -138,6 +141,15 @@ module _ (s : State) (right : Right s) (b out : List ℕ) (whole : length b % 8 
     answers-known =
         let n : length (orderly .events) ≡ length b / 8 = ap length events-known ∙ known-length in
         ends .answers ∙ ap (λ (k : ℕ). map (value (view s)) (orderly .events) ++ drop k out) n ∙ ap (λ (es : List Event). map (value (view s)) es ++ drop (length b / 8) out) events-known
+
+    -- each record left its turn
+    pub each-made : take (length b / 8) (in-places (turns-made (view s) ds)) ≡ map (turn (view s)) ds
+    each-made =
+        let alone = ap (first-refused (view s) 0) (orderly .known) ∙ refuses-none (view s) 0 (orderly .events) (orderly .agreeing .alone) in
+        let m = all-made (view s) ds (none-refused (view s) 0 ds alone) in
+        let n : length (map (turn (view s)) ds) ≡ length b / 8 = length-map ds (turn (view s)) ∙ how-many b in
+        ap (λ (ts : List Turn). take (length b / 8) (in-places ts)) m
+        ∙ take-at (map (turn (view s)) ds) (drop (length (map (turn (view s)) ds)) (replicate 63 no-turn)) (length b / 8) n
 
     module _ (all : List Turn) (turns : take (length b / 8) all ≡ map (turn (view s)) ds) where
       turns-are : take (length b / 8) all ≡ map (turn (view s)) (map Known (orderly .events))

@@ -1,3 +1,2 @@
--- What the code that plays a tick is made of: feet, turns, and turns carried out. Nothing rests on believing them.
-pub mod Feet
+-- What judging a record of a tick leaves, and turns carried out. Nothing rests on believing them.
 pub mod Turns

@@ -1,23 +1,25 @@
 -- What judging a record leaves, what the turns of a tick answer, and what carrying them out makes of a state.
 use Prim.Native.Nat.{ℕ, suc, _<_}
 use mathlib.Core.Bool.{Bool, true, false, cond}
-use mathlib.Core.List.{List, [], _∷_, map}
+use mathlib.Core.List.{List, [], _∷_, _++_, map}
 use mathlib.Core.Option.{Option, none, some}
-use lib.ListN.{getD}
+use lib.ListN.{length, getD, drop, replicate}
+use Rattle.base.specs.Grounds.{refusal}
 use Rattle.chassis.specs.Numbers.{agent}
 use Rattle.network.specs.declared.State.{State}
 use Rattle.network.specs.Nets.{Net}
 use Rattle.network.specs.Acts.{acted-on, counted}
 use Rattle.events.specs.declared.Decoded.{Decoded}
-use Rattle.steps.specs.Frames.{frame, next-of}
-use Rattle.steps.specs.Plans.{refused-plan, record-plan}
+use Rattle.events.specs.Steps.{record-grounds}
+use Rattle.sights.specs.Frames.{frame, next-of}
+use Rattle.judges.specs.Plans.{refused-plan, record-plan}
 use Rattle.ticks.specs.declared.TickAnswer.{TickAnswer}
 use Rattle.ticks.specs.declared.TickAnswer.the-variants.{Accepted, Refused, Conflict}
 use Rattle.ticks.specs.Footings.{Footing}
 use Rattle.ticks.specs.Conflicts.{clash}
 use Rattle.ticks.specs.Ticks.{known, first-refused, first-pair}
 use Rattle.cycles.specs.declared.Turn.{Turn}
-use Rattle.cycles.specs.Feet.{no-foot, foot, footing-of}
+use Rattle.feet.specs.Feet.{no-foot, foot, footing-of}
 
 abbrev pub no-turn : Turn
 no-turn = record { plan = refused-plan 0; master = agent 0; foot = no-foot }
@@ -29,6 +31,19 @@ turn s d = record {
   master = frame (s .table) d .master;
   foot = foot (s .table) (frame (s .table) d .event) (next-of s (frame (s .table) d .event));
 }
+
+abbrev pub unless-refused : Option ℕ → List Turn → List Turn
+unless-refused none ts = ts
+unless-refused (some n) ts = []
+
+-- the turns of the records before the first one that is refused alone
+unfoldable pub turns-made : Net → List Decoded → List Turn
+turns-made s [] = []
+turns-made s (d ∷ ds) = unless-refused (refusal (record-grounds s d)) (turn s d ∷ turns-made s ds)
+
+-- in the 63 places that a tick has for them
+abbrev pub in-places : List Turn → List Turn
+in-places ts = ts ++ drop (length ts) (replicate 63 no-turn)
 
 -- ---- what is answered
 

@@ -1,32 +1,13 @@
 // One cycle played. Every record is judged once, in the state that the tick starts in, and leaves a turn: its plan and its foot. Feet
 // are compared pair by pair; then the plans are carried out, and nothing is judged again.
-pub mod feet;
 pub mod pairs;
 pub mod plays;
 pub mod turning;
 
 use chassis::Agent;
-use chassis::Bus;
-use chassis::Chan;
-use queue::Transaction;
-use steps::Plan;
+use feet::Foot;
+use judges::Plan;
 use ticks::TickAnswer;
-
-// What two events are compared by, in few bytes. A field counts only where the flag before it is up: kinds 4 to 7 occur on a bus,
-// kinds 1 to 3 begin, 4, 6 and 7 try the entry that is named below, 8 and 9 drop it, and a 7 may take a C out of a channel.
-pub struct Foot {
-    pub occurs: bool,
-    pub bus: Bus,
-    pub begins: bool,
-    pub master: Agent,
-    pub takes: bool,
-    pub from: Chan,
-    pub tries: bool,
-    pub drops: bool,
-    pub kind: u8,
-    pub channel: Chan,
-    pub transaction: Transaction,
-}
 
 // What judging a record leaves.
 pub struct Turn {

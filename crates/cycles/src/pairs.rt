@@ -1,6 +1,6 @@
 // The lowest first record of a conflicting pair and its lowest partner.
 use crate::Turns;
-use crate::feet::clashes;
+use feet::feet::clashes;
 use ticks::TickAnswer;
 ghost use mathlib.Core.Path.{_≡_};
 ghost use Prim.Native.Nat.{_≤_};

@@ -2,27 +2,28 @@
 use crate::Judgement;
 use crate::Turn;
 use crate::Turns;
-use crate::feet::foot_of;
-use crate::feet::no_foot;
 use crate::pairs::first_pair;
 use chassis::Agent;
-use events::records::decode;
+use chassis::labels::ladder;
+use events::records::decode_at;
+use feet::feet::foot_of;
+use feet::feet::no_foot;
+use judges::judges::refused_plan;
 use network::State;
-use steps::frames::record_frame;
-use steps::judges::refused_plan;
+use sights::frames::record_frame;
 use steps::notices::noticed;
 use steps::notices::told;
 use steps::plays::raised;
 use ticks::TickAnswer;
 ghost use mathlib.Core.Path.{_≡_};
 ghost use mathlib.Core.Bool.{true};
-ghost use mathlib.Core.List.{_++_, map};
-ghost use Prim.Native.Nat.{ℕ, _/_, _<_, _≤_};
+ghost use mathlib.Core.List.{_++_};
+ghost use Prim.Native.Nat.{ℕ, _<_, _≤_};
 ghost use lib.ListN.{length, getD, take, drop};
 ghost use Rattle.network.specs.Nets.{view};
 ghost use Rattle.network.specs.Soundness.{sound};
 ghost use Rattle.events.specs.Records.{records};
-ghost use Rattle.cycles.specs.Turns.{no-turn, turn, judged-answer, Placed, all-turned, turn-values};
+ghost use Rattle.cycles.specs.Turns.{no-turn, turns-made, in-places, judged-answer, Placed, all-turned, turn-values};
 
 fn no_turn() -> Turn
     ensures { λ r. ⌜ r ≡ no-turn ⌝ }
@@ -40,20 +41,19 @@ fn no_turn() -> Turn
 pub fn judge_all(s: State, r: &[u8]) -> Judgement
     requires { ⌜ (sound s ≡ true) × (length (now r) ≤ 504) ⌝ }
     ensures { λ q. ⌜ q .answer ≡ judged-answer (view s) (records (now (r .entry))) ⌝ }
-    ensures { λ q. ⌜ (q .answer ≡ TickAnswer.Accepted → take (length (now (r .entry)) / 8) (q .turns .all) ≡ map (turn (view s)) (records (now (r .entry)))) ⌝ }
+    ensures { λ q. ⌜ q .turns .all ≡ in-places (turns-made (view s) (records (now (r .entry)))) ⌝ }
 {
     let mut turns: [Turn; 63] = [no_turn(); 63];
     let many = r.len() / 8;
     let t = s.table;
+    let ways = ladder(t);
     let mut i: usize = 0;
     while i < many {
-        let from = 8 * i;
-        let to = from + 8;
-        let d = decode(&r[from..to]);
+        let d = decode_at(r, i);
         let f = record_frame(t, d);
         let place = f.at.0 as usize;
         let here = s.channels[place];
-        let n = noticed(t, f, here);
+        let n = noticed(t, &ways, f, here);
         let u = n.ahead.0 as usize;
         let v = n.answer.0 as usize;
         let w = n.back.0 as usize;

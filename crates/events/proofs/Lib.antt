@@ -7,3 +7,4 @@ pub mod CloseAtHand
 pub mod Kept
 pub mod SoundStays
 pub mod FirstBegins
+pub mod RefusedExactly

@@ -6,8 +6,8 @@ use chassis::Chan;
 use queue::Transaction;
 ghost use mathlib.Core.Path.{_≡_};
 ghost use mathlib.Core.Bool.{Bool, true};
-ghost use Prim.Native.Nat.{_+_, _*_, _<_};
-ghost use lib.ListN.{length};
+ghost use Prim.Native.Nat.{_+_, _*_, _<_, _≤_};
+ghost use lib.ListN.{length, take, drop};
 ghost use Rattle.events.specs.Records.{begin-event, named-event, begin-unused-zero, other-unused-zero, rest-is-zero, number-in, decoded};
 
 // Two bytes, low first.
@@ -134,4 +134,14 @@ pub fn decode(b: &[u8]) -> Decoded
             number,
         },
     )
+}
+
+// Record i of the record bytes: "eight bytes each".
+pub fn decode_at(r: &[u8], i: usize) -> Decoded
+    requires { ⌜ 8 * i + 8 ≤ length (now r) ⌝ }
+    ensures { λ d. ⌜ d ≡ decoded (take 8 (drop (8 * i) (now (r .entry)))) ⌝ }
+{
+    let from = 8 * i;
+    let to = from + 8;
+    decode(&r[from..to])
 }

@@ -10,8 +10,8 @@ use Rattle.base.proofs.Logic.{split, and-true, true-false, both}
 use Rattle.network.specs.declared.State.{State}
 use Rattle.events.proofs.SoundStays.{Right}
 use Rattle.blocks.specs.Answers.{block-answer}
-use Rattle.blocks.specs.Runs.{goes-on}
-use Rattle.blocks.proofs.Running.{run-right}
+use Rattle.logs.specs.Runs.{goes-on}
+use Rattle.logs.proofs.Running.{run-right}
 use Rattle.inputs.specs.Inputs.{is-end, next-goes-on, next-state}
 
 pub end-later : (place : ℕ) (b : List ℕ) → is-end place b ≡ true → place ≡ 0 → ⊥

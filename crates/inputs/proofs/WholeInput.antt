@@ -17,10 +17,10 @@ use Rattle.blocks.specs.declared.BlockAnswer.{BlockAnswer}
 use Rattle.blocks.specs.declared.BlockAnswer.the-variants.{Refused, Network, Steps, Tick}
 use Rattle.blocks.specs.Blocks.{block-kind, block-grounds}
 use Rattle.blocks.specs.Answers.{accepted-as, answer-by, block-answer}
-use Rattle.blocks.specs.Lines.{Line, end, texts}
-use Rattle.blocks.specs.Logs.{Ran, then-more, entries-left, block-played, blocks-played, cut, input-blocks, run, log}
-use Rattle.blocks.specs.Runs.{run-lines, run-state, goes-on}
-use Rattle.blocks.proofs.Running.{run-is-played}
+use Rattle.lines.specs.Lines.{Line, end, texts}
+use Rattle.logs.specs.Logs.{Ran, then-more, entries-left, block-played, blocks-played, cut, input-blocks, run, log}
+use Rattle.logs.specs.Runs.{run-lines, run-state, goes-on}
+use Rattle.logs.proofs.Running.{run-is-played}
 use Rattle.inputs.specs.Inputs.{is-end, next-goes-on, next-state, next-lines}
 
 -- what the turns of the loop print: the blocks in turn while the input is read on, then no bytes

@@ -6,9 +6,9 @@ use lib.ListN.{length}
 use lib.Dec.{eqb}
 use Rattle.network.specs.declared.State.{State}
 use Rattle.blocks.specs.Answers.{block-answer}
-use Rattle.blocks.specs.Lines.{Line, end}
-use Rattle.blocks.specs.Logs.{entries-left}
-use Rattle.blocks.specs.Runs.{run-lines, run-state, goes-on}
+use Rattle.lines.specs.Lines.{Line, end}
+use Rattle.logs.specs.Logs.{entries-left}
+use Rattle.logs.specs.Runs.{run-lines, run-state, goes-on}
 
 -- no bytes behind at least one block are the end; an input without any block is a block of no bytes
 unfoldable pub is-end : ℕ → List ℕ → Bool

@@ -1,8 +1,8 @@
 // A whole input: its blocks in turn, then its end. Both programs play their inputs by `play_input`.
-use blocks::lines::put_end;
-use blocks::plays::BlockRun;
-use blocks::plays::entries_left;
-use blocks::plays::run_block;
+use lines::lines::put_end;
+use logs::plays::BlockRun;
+use logs::plays::entries_left;
+use logs::plays::run_block;
 use network::State;
 use network::zero;
 ghost use mathlib.Core.Path.{_≡_};
@@ -10,8 +10,8 @@ ghost use mathlib.Core.Bool.{true};
 ghost use Prim.Native.Nat.{_≤_};
 ghost use lib.ListN.{length};
 ghost use Rattle.network.specs.Soundness.{sound};
-ghost use Rattle.blocks.specs.Lines.{texts};
-ghost use Rattle.blocks.specs.Writing.{Written};
+ghost use Rattle.lines.specs.Lines.{texts};
+ghost use Rattle.lines.specs.Writing.{Written};
 ghost use Rattle.inputs.specs.Inputs.{is-end, next-goes-on, next-state, next-lines};
 
 fn is_end(place: u32, b: &[u8]) -> bool

@@ -8,6 +8,7 @@ ghost use lib.Dec.{ltb, leb, eqb};
 ghost use Rattle.base.specs.Lists.{all, all-from};
 ghost use Rattle.chassis.specs.Channels.{has-agent, chan-count, limit};
 ghost use Rattle.chassis.specs.Tables.{table-passes, within};
+ghost use Rattle.chassis.specs.Ladders.{ladder-of};
 ghost use Rattle.queue.specs.Entries.{P, R, C, is-kind};
 ghost use Rattle.queue.specs.Queues.{filling};
 ghost use Rattle.queue.specs.Packing.{live};
@@ -20,6 +21,7 @@ use chassis::Table;
 use chassis::TableAnswer;
 use chassis::channels::has_agent;
 use chassis::channels::has_chan;
+use chassis::labels::ladder;
 use chassis::routes::on_the_way;
 use chassis::routes::opposes_the_way;
 use chassis::tables::table_answer;
@@ -80,19 +82,19 @@ fn is_begun(begins: [u16; 32], x: Entry) -> bool
 }
 
 // "P and R stand only on the way from master to target; C stands only in the opposite of a bridge channel on that way."
-fn stands_right(t: Table, n: Chan, x: Entry) -> bool
-    requires { ⌜ (table-passes t ≡ true) × (has-agent t (x .transaction .master) ≡ true) × (has-agent t (x .target) ≡ true) × (n .0 < 255) ⌝ }
+fn stands_right(t: Table, ways: &[u8; 256], n: Chan, x: Entry) -> bool
+    requires { ⌜ (table-passes t ≡ true) × (has-agent t (x .transaction .master) ≡ true) × (has-agent t (x .target) ≡ true) × (n .0 < 255) × (now ways ≡ ladder-of t) ⌝ }
     ensures { λ r. ⌜ r ≡ stands-right t n x ⌝ }
 {
     if x.kind == C {
-        return opposes_the_way(t, x.transaction.master, x.target, n);
+        return opposes_the_way(t, ways, x.transaction.master, x.target, n);
     }
-    on_the_way(t, x.transaction.master, x.target, n)
+    on_the_way(t, ways, x.transaction.master, x.target, n)
 }
 
 // The routes are asked last but one: by then the table is known to have both agents.
-fn fits(t: Table, begins: [u16; 32], n: Chan, x: Entry) -> bool
-    requires { ⌜ (table-passes t ≡ true) × (n .0 < 255) ⌝ }
+fn fits(t: Table, ways: &[u8; 256], begins: [u16; 32], n: Chan, x: Entry) -> bool
+    requires { ⌜ (table-passes t ≡ true) × (n .0 < 255) × (now ways ≡ ladder-of t) ⌝ }
     ensures { λ r. ⌜ r ≡ fit (counting t begins) n x ⌝ }
 {
     if !is_known(x) {
@@ -113,21 +115,21 @@ fn fits(t: Table, begins: [u16; 32], n: Chan, x: Entry) -> bool
     if !is_begun(begins, x) {
         return false;
     }
-    if !stands_right(t, n, x) {
+    if !stands_right(t, ways, n, x) {
         return false;
     }
     may_be_marked(x)
 }
 
-fn entries_fit(t: Table, begins: [u16; 32], n: Chan, c: Channel) -> bool
-    requires { ⌜ (table-passes t ≡ true) × (n .0 < 255) × (c .count ≤ 24) ⌝ }
+fn entries_fit(t: Table, ways: &[u8; 256], begins: [u16; 32], n: Chan, c: Channel) -> bool
+    requires { ⌜ (table-passes t ≡ true) × (n .0 < 255) × (c .count ≤ 24) × (now ways ≡ ladder-of t) ⌝ }
     ensures { λ r. ⌜ r ≡ all (fit (counting t begins) n) (live c) ⌝ }
 {
     let count = c.count;
     let mut i: usize = 0;
     while i < count {
         let x = c.entries[i];
-        if !fits(t, begins, n, x) {
+        if !fits(t, ways, begins, n, x) {
             return false;
         }
         i += 1;
@@ -166,8 +168,8 @@ fn there_or_empty(t: Table, n: Chan, c: Channel) -> bool
 }
 
 // The count is asked first: the walks over the entries trust it.
-fn is_sound_channel(t: Table, begins: [u16; 32], n: Chan, c: Channel) -> bool
-    requires { ⌜ (table-passes t ≡ true) × (n .0 < 255) ⌝ }
+fn is_sound_channel(t: Table, ways: &[u8; 256], begins: [u16; 32], n: Chan, c: Channel) -> bool
+    requires { ⌜ (table-passes t ≡ true) × (n .0 < 255) × (now ways ≡ ladder-of t) ⌝ }
     ensures { λ r. ⌜ r ≡ sound-channel t begins (n .0) c ⌝ }
 {
     if c.count > 24 {
@@ -176,7 +178,7 @@ fn is_sound_channel(t: Table, begins: [u16; 32], n: Chan, c: Channel) -> bool
     if !within_limits(t, c) {
         return false;
     }
-    if !entries_fit(t, begins, n, c) {
+    if !entries_fit(t, ways, begins, n, c) {
         return false;
     }
     if !c.unused_are_zero() {
@@ -208,7 +210,7 @@ fn are_sound_counts(t: Table, begins: [u16; 32]) -> bool
     true
 }
 
-// The table is asked first, so that routes are asked only on a table that passes.
+// The table is asked first, so that routes are asked only on a table that passes; its ladder is made once for all entries.
 pub fn is_sound(s: State) -> bool
     ensures { λ r. ⌜ r ≡ sound s ⌝ }
 {
@@ -217,12 +219,13 @@ pub fn is_sound(s: State) -> bool
     if let TableAnswer::Refused(number) = checked {
         return false;
     }
+    let ways = ladder(t);
     let begins = s.begins;
     let mut n: u8 = 0;
     while n < 62 {
         let i = n as usize;
         let c = s.channels[i];
-        if !is_sound_channel(t, begins, Chan(n), c) {
+        if !is_sound_channel(t, &ways, begins, Chan(n), c) {
             return false;
         }
         n += 1;

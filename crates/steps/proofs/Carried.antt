@@ -30,11 +30,11 @@ use Rattle.network.proofs.Good.{Good, sound-is-good}
 use Rattle.events.specs.declared.Event.{Event}
 use Rattle.events.specs.declared.Decoded.{Decoded}
 use Rattle.events.specs.declared.Decoded.the-variants.{Known, Unfit}
-use Rattle.steps.specs.declared.Plan.{Plan}
+use Rattle.judges.specs.declared.Plan.{Plan}
 use Rattle.events.specs.Grounds.{grounds, Accepted}
 use Rattle.events.specs.Effects.{after, value}
-use Rattle.steps.specs.Frames.{master-number, frame, is-begin}
-use Rattle.steps.specs.Plans.{refused-plan, begin-plan, accepted-plan, plan, record-plan, carried-out}
+use Rattle.sights.specs.Frames.{master-number, frame, is-begin}
+use Rattle.judges.specs.Plans.{refused-plan, begin-plan, accepted-plan, plan, record-plan, carried-out}
 use Rattle.events.specs.Steps.{inner-step, record-step, refusal-number, answer-value}
 use Rattle.events.specs.declared.Event.the-variants.{BeginPosted, BeginRead, BeginWrite, Commit, Post, Latch, Complete, DropRequest, DropCompletion}
 use Rattle.events.proofs.SoundStays.{Right}

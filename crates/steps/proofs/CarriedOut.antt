@@ -44,13 +44,13 @@ use Rattle.network.proofs.Rules.{at-most-24}
 use Rattle.events.specs.declared.Event.{Event}
 use Rattle.events.specs.declared.Event.the-variants.{BeginPosted, BeginRead, BeginWrite, Commit, Post, Latch, Complete, DropRequest, DropCompletion}
 use Rattle.events.specs.declared.Decoded.the-variants.{Known}
-use Rattle.steps.specs.declared.Frame.{Frame}
-use Rattle.steps.specs.declared.Plan.{Plan}
+use Rattle.sights.specs.declared.Frame.{Frame}
+use Rattle.judges.specs.declared.Plan.{Plan}
 use Rattle.events.specs.Tests.{entry-at, ahead, answered, unanswered}
 use Rattle.events.specs.Effects.{leaves, is-marked, enters, answer-taken, answer-given, begins, new-entry, effects, after}
 use Rattle.events.specs.Grounds.{begin-grounds, named-grounds, grounds, Accepted}
-use Rattle.steps.specs.Frames.{master-number, channel-named, begin-frame, named-frame, frame}
-use Rattle.steps.specs.Plans.{at-channel, no-act, does, refused-plan, begin-plan, entering, answer-leaving, answer-entering, accepted-plan, carried-out}
+use Rattle.sights.specs.Frames.{master-number, channel-named, begin-frame, named-frame, frame}
+use Rattle.judges.specs.Plans.{at-channel, no-act, does, refused-plan, begin-plan, entering, answer-leaving, answer-entering, accepted-plan, carried-out}
 use Rattle.events.proofs.Kept.{rules-stay}
 
 -- ---- what is named is found under its own name

@@ -1,5 +1,4 @@
 -- Laws of records played.
-pub mod Completing
 pub mod Told
 pub mod CarriedOut
 pub mod Shown

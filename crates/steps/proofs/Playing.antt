@@ -2,19 +2,24 @@
 use Prim.Native.Nat.{ℕ, suc, _+_, _*_, _/_, _<_, _≤_}
 use mathlib.Core.Path.{_≡_, refl, ap, sym, _∙_}
 use mathlib.Core.List.{List, [], _∷_, _++_, map, append-nil}
+use mathlib.Core.Option.{Option, none, some}
 use native.Mathlib.Omega.{arith}
 use lib.ListN.{length, getD, take, drop, set, length-set, length-map, take-append-drop, drop-of-length-le, List·getD-map}
 use lib.Seq.{drop-set-lt}
 use Rattle.base.specs.Lists.{parts}
+use Rattle.base.specs.Grounds.{refusal}
 use Rattle.base.proofs.Walks.{rest-on}
 use Rattle.base.proofs.Writing.{filled-on, length-parts, part-at}
 use Rattle.network.specs.declared.State.{State}
+use Rattle.network.specs.Nets.{view, pack}
 use Rattle.events.specs.declared.Decoded.{Decoded}
-use Rattle.events.specs.declared.Decoded.the-variants.{Unfit}
+use Rattle.events.specs.declared.Decoded.the-variants.{Known, Unfit}
+use Rattle.events.specs.declared.Outcome.{Outcome}
 use Rattle.events.specs.Records.{decoded, records}
-use Rattle.events.specs.Steps.{record-step, refusal-number, answer-value}
+use Rattle.events.specs.Grounds.{grounds}
+use Rattle.events.specs.Steps.{unless, inner-step, record-step, refusal-number, answer-value}
 use Rattle.steps.specs.Plays.{played-state, played-refusals, played-values}
-use Rattle.events.proofs.SoundStays.{Right, record-step-right}
+use Rattle.events.proofs.SoundStays.{Right, table-stays, record-step-right}
 
 -- the records are so many, and the i-th is decoded from its eight bytes
 pub how-many : (r : List ℕ) → length (records r) ≡ length r / 8
@@ -25,6 +30,16 @@ pub the-record : (r : List ℕ) (i : ℕ) → i < length r / 8 → getD (records
 unfolding records
 the-record r i h = List·getD-map decoded (parts (length r / 8) 8 r) i [] ∙ ap decoded (part-at (length r / 8) 8 r i h)
 
+-- no record changes the table
+unless-table : (s : State) (o : Option ℕ) (c : Outcome) → c .state .table ≡ s .table → unless o s c .state .table ≡ s .table
+unless-table s none c h = h
+unless-table s (some n) c h = refl
+
+pub record-step-table : (s : State) (d : Decoded) → record-step s d .state .table ≡ s .table
+unfolding inner-step pack view
+record-step-table s Unfit = refl
+record-step-table s (Known e) = unless-table s (refusal (grounds (view s) e)) _ (table-stays (view s) e)
+
 -- a list written up to its n-th place
 joined : (n i : ℕ) (l l₀ : List ℕ) {done : List ℕ} → i ≡ n → take i l ≡ done → drop n l ≡ drop n l₀ → l ≡ done ++ drop n l₀
 joined n i l l₀ e a b = sym (take-append-drop n l) ∙ rw (b, ← e, a)
@@ -33,6 +48,7 @@ pub record Playing (r rf₀ vs₀ : List ℕ) (s₀ : State) (n : ℕ) (rf vs : 
   pub within : i ≤ n
   pub many : n ≡ length r / 8
   pub right : Right s
+  pub table : s .table ≡ s₀ .table
   pub rf-length : length rf ≡ length rf₀
   pub vs-length : length vs ≡ length vs₀
   pub state : played-state s (drop i (records r)) ≡ played-state s₀ (records r)
@@ -47,6 +63,7 @@ module _ (r rf₀ vs₀ : List ℕ) (s₀ : State) (n : ℕ) where
     within = omega arith;
     many = m;
     right = k;
+    table = refl;
     rf-length = refl;
     vs-length = refl;
     state = refl;
@@ -89,6 +106,7 @@ module _ (r rf₀ vs₀ : List ℕ) (s₀ : State) (n : ℕ) where
             within = omega arith;
             many = p .many;
             right = rw isz q;
+            table = ap (λ (x : State). x .table) isz ∙ record-step-table s this ∙ p .table;
             rf-length = simp length-set (p .rf-length);
             vs-length = simp length-set (p .vs-length);
             state = rw isz (rw left at (p .state));

@@ -17,15 +17,17 @@ use Rattle.network.specs.Nets.{view}
 use Rattle.network.specs.Acts.{channel-at}
 use Rattle.events.specs.declared.Decoded.{Decoded}
 use Rattle.events.proofs.SoundStays.{Right}
-use Rattle.steps.specs.declared.Frame.{Frame}
+use Rattle.sights.specs.declared.Frame.{Frame}
 use Rattle.steps.specs.declared.Notice.{Notice}
-use Rattle.steps.specs.declared.Plan.{Plan}
-use Rattle.steps.specs.Frames.{frame, channel-number, channel-named, kind-named, transaction-named, ahead-or, answer-or, back-or}
-use Rattle.steps.specs.Plans.{small, record-plan}
-use Rattle.steps.specs.Sights.{next-told}
+use Rattle.judges.specs.declared.Plan.{Plan}
+use Rattle.sights.specs.Frames.{frame, channel-number, channel-named, kind-named, transaction-named, ahead-or, answer-or, back-or}
+use Rattle.judges.specs.Plans.{record-plan}
+use Rattle.sights.specs.Sights.{small}
+use Rattle.sights.specs.Sights.{next-told}
 use Rattle.steps.specs.Notices.{look-told, Aimed, beside, notice, told-plan}
 use Rattle.steps.proofs.Shown.{Pointed, points, plan-right}
-use Rattle.steps.proofs.There.{one-of-62, one-of-32, Onward, told-onward, onward-small, ahead-there, answer-there, back-there, Reached, plan-there}
+use Rattle.sights.proofs.Onward.{one-of-62, one-of-32, Onward, told-onward, onward-small, ahead-there, answer-there, back-there}
+use Rattle.steps.proofs.There.{Reached, plan-there}
 use Rattle.steps.proofs.Carried.{table-of, target-is}
 
 -- a record's frame in s

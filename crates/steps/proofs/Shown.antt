@@ -32,14 +32,14 @@ use Rattle.events.specs.declared.Event.{Event}
 use Rattle.events.specs.declared.Event.the-variants.{BeginPosted, BeginRead, BeginWrite, Commit, Post, Latch, Complete, DropRequest, DropCompletion}
 use Rattle.events.specs.declared.Decoded.{Decoded}
 use Rattle.events.specs.declared.Decoded.the-variants.{Known, Unfit}
-use Rattle.steps.specs.declared.Frame.{Frame}
-use Rattle.steps.specs.declared.Sight.{Sight}
-use Rattle.steps.specs.declared.Plan.{Plan}
+use Rattle.sights.specs.declared.Frame.{Frame}
+use Rattle.sights.specs.declared.Sight.{Sight}
+use Rattle.judges.specs.declared.Plan.{Plan}
 use Rattle.events.specs.Tests.{full-ahead, answer-full, is-channel-with}
-use Rattle.steps.specs.Frames.{frame, refused-frame, begin-frame, named-frame, is-begin, master-number, target-number, channel-named, kind-named, transaction-named, moves-on, look-at, next-of, look-back, sight, ahead-or, answer-or, back-or}
-use Rattle.steps.specs.Plans.{record-plan}
-use Rattle.steps.specs.Verdicts.{frame-verdict}
-use Rattle.steps.specs.Sights.{next-told, if-channel, look-if, full-in, full-back, sight-told}
+use Rattle.sights.specs.Frames.{frame, refused-frame, begin-frame, named-frame, is-begin, master-number, target-number, channel-named, kind-named, transaction-named, moves-on, look-at, next-of, look-back, sight, ahead-or, answer-or, back-or}
+use Rattle.judges.specs.Plans.{record-plan}
+use Rattle.judges.specs.Verdicts.{frame-verdict}
+use Rattle.sights.specs.Sights.{next-told, if-channel, look-if, full-in, full-back, sight-told}
 use Rattle.steps.proofs.Told.{framed, told-record}
 
 -- ---- a declared channel shows what waits

@@ -26,7 +26,7 @@ use Rattle.events.specs.Grounds.{begin-grounds, named-grounds, grounds}
 use Rattle.events.specs.Steps.{refusal-number, answer-value, answer-of, inner-step, record-step, step-grounds, step, record-grounds}
 use Rattle.steps.specs.Plays.{played-state, played-refusals, played-values}
 use Rattle.events.proofs.SoundStays.{step-is}
-use Rattle.steps.specs.Plans.{plan, record-plan}
+use Rattle.judges.specs.Plans.{plan, record-plan}
 use Rattle.steps.proofs.Carried.{accepted-number}
 
 -- ---- no ground's number is 0

@@ -1,4 +1,4 @@
--- Every channel that a record's reading and its plan point to is one of the 62, and every agent one of the 32.
+-- Every channel that a record's plan points to is a channel of the table.
 use Prim.Native.Nat.{ℕ, _+_, _*_, _<_}
 use mathlib.Core.Path.{_≡_, refl, ap, sym, subst, _∙_}
 use mathlib.Core.Bool.{Bool, true, false, cond, not, _&&_}
@@ -31,60 +31,12 @@ use Rattle.events.specs.declared.Event.{Event}
 use Rattle.events.specs.declared.Event.the-variants.{BeginPosted, BeginRead, BeginWrite, Commit, Post, Latch, Complete, DropRequest, DropCompletion}
 use Rattle.events.specs.declared.Decoded.{Decoded}
 use Rattle.events.specs.declared.Decoded.the-variants.{Known, Unfit}
-use Rattle.steps.specs.declared.Plan.{Plan}
+use Rattle.judges.specs.declared.Plan.{Plan}
 use Rattle.events.specs.Tests.{ahead, entry-at}
 use Rattle.events.specs.Grounds.{begin-grounds, named-grounds, grounds, Accepted}
-use Rattle.steps.specs.Frames.{moves-on, ahead-or, answer-or, back-or}
-use Rattle.steps.specs.Plans.{small, entering, answer-leaving, answer-entering, refused-plan, begin-plan, accepted-plan, plan, record-plan}
-use Rattle.steps.specs.Sights.{next-told}
-use Rattle.steps.proofs.Told.{by-place}
-
-module _ (T : Table) (ok : table-passes T ≡ true) where
-  pub one-of-62 : (N : Chan) → has-chan T N ≡ true → N .0 < 62
-  one-of-62 N h =
-      let c = counts T (passed T ok .counts) in
-      let a = c .agents .1 in
-      let b = c .bridges .1 in
-      let k = ltb-true (N .0) (chan-count T) h in
-      omega arith
-
-  pub one-of-32 : (a : Agent) → has-agent T a ≡ true → a .0 < 32
-  one-of-32 a h =
-      let c = counts T (passed T ok .counts) .agents .1 in
-      let k = ltb-true (a .0) (T .agents) h in
-      omega arith
-
-  -- N1 is the target, or a bridge channel of the table
-  abbrev pub Onward : NextPlace → Type 0
-  Onward Target = Unit {0}
-  Onward (Through X) = (has-chan T X ≡ true) × (is-master T X ≡ false)
-
-  next-onward : (N : Chan) (a : Agent) → has-chan T N ≡ true → Onward (next-place T N a)
-  next-onward N a h =
-      by-place (next-place T N a) (λ e. rw e tt)
-      (λ X e. rw e (let r = next T ok N a X h e in (r .there, r .no-master)))
-
-  pub told-onward : (e : Event) (N : Chan) (l : Look) → has-chan T N ≡ true → Onward (next-told T e N l)
-  told-onward e N l h =
-      split (moves-on e)
-      (λ m. split (l .found) (λ f. rw (m, f) (next-onward N (l .entry .target) h)) (λ f. rw (m, f) tt))
-      (λ m. rw m tt)
-
-  pub onward-small : (n : NextPlace) → Onward n → small n
-  onward-small Target o = tt
-  onward-small (Through X) o = let k = one-of-62 X (o .0) in omega arith
-
-  pub ahead-there : (N : Chan) (n : NextPlace) → has-chan T N ≡ true → Onward n → has-chan T (ahead-or N n) ≡ true
-  ahead-there N Target h o = h
-  ahead-there N (Through X) h o = o .0
-
-  pub answer-there : (N : Chan) (n : NextPlace) → has-chan T N ≡ true → Onward n → has-chan T (answer-or T N n) ≡ true
-  answer-there N Target h o = h
-  answer-there N (Through X) h o = opposing T X (o .0) (o .1) .there
-
-  pub back-there : (N : Chan) → has-chan T N ≡ true → has-chan T (back-or T N) ≡ true
-  unfolding back-or
-  back-there N h = split (is-master T N) (λ m. rw m h) (λ m. rw m (opposing T N h m .there))
+use Rattle.judges.specs.Plans.{entering, answer-leaving, answer-entering, refused-plan, begin-plan, accepted-plan, plan, record-plan}
+use Rattle.sights.specs.Sights.{small}
+use Rattle.sights.proofs.Onward.{Onward, next-onward}
 
 -- ---- what a plan points to
 

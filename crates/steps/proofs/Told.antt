@@ -28,15 +28,16 @@ use Rattle.events.specs.declared.Event.{Event}
 use Rattle.events.specs.declared.Event.the-variants.{BeginPosted, BeginRead, BeginWrite, Commit, Post, Latch, Complete, DropRequest, DropCompletion}
 use Rattle.events.specs.declared.Decoded.{Decoded}
 use Rattle.events.specs.declared.Decoded.the-variants.{Known, Unfit}
-use Rattle.steps.specs.declared.Frame.{Frame}
-use Rattle.steps.specs.declared.Sight.{Sight}
-use Rattle.steps.specs.declared.Plan.{Plan}
+use Rattle.sights.specs.declared.Frame.{Frame}
+use Rattle.sights.specs.declared.Sight.{Sight}
+use Rattle.judges.specs.declared.Plan.{Plan}
 use Rattle.events.specs.Tests.{ahead, entry-at, is-target, is-channel-with, full-ahead, answer-full, behind-a-P}
 use Rattle.events.specs.Grounds.{begin-grounds, named-grounds, grounds}
 use Rattle.events.specs.Effects.{new-entry}
-use Rattle.steps.specs.Frames.{frame, begin-frame, named-frame, refused-frame, master-number, channel-named, kind-named, transaction-named, moves-on, look-at, next-of, look-back, sight}
-use Rattle.steps.specs.Plans.{at-channel, no-act, does, entering, refused-plan, begin-plan, accepted-plan, plan-by, plan, record-plan}
-use Rattle.steps.specs.Verdicts.{begin-verdict, post-verdict, latch-verdict-to, latch-verdict, complete-verdict-to, complete-verdict, verdict, frame-verdict}
+use Rattle.sights.specs.Frames.{frame, begin-frame, named-frame, refused-frame, master-number, channel-named, kind-named, transaction-named, moves-on, look-at, next-of, look-back, sight}
+use Rattle.judges.specs.Plans.{at-channel, no-act, does, entering, refused-plan, begin-plan, accepted-plan, plan-by, plan, record-plan}
+use Rattle.sights.proofs.Onward.{by-place}
+use Rattle.judges.specs.Verdicts.{begin-verdict, post-verdict, latch-verdict-to, latch-verdict, complete-verdict-to, complete-verdict, verdict, frame-verdict}
 
 -- the first ground that holds decides, test by test
 decided : (b : Bool) (n : ℕ) (o : Option ℕ) (p : Plan) → plan-by (cond b (some n) o) p ≡ cond b (refused-plan n) (plan-by o p)
@@ -50,11 +51,6 @@ flipped false x y = refl
 either : (a b : Bool) (x y : Plan) → cond (a || b) x y ≡ cond a x (cond b x y)
 either true b x y = refl
 either false b x y = refl
-
--- the next place is the target, or a channel
-pub by-place : {A : Type 0} (n : NextPlace) → (n ≡ Target → A) → ((X : Chan) → n ≡ Through X → A) → A
-by-place Target f g = f refl
-by-place (Through X) f g = g X refl
 
 -- a verdict on an entry that is there, and on one that is not
 module _ (N : Chan) (l : Look) (next : NextPlace) where

@@ -1,7 +1,3 @@
--- What the code that plays records is made of: what is read off a record, what a judge is told, what it says.
-pub mod Frames
-pub mod Plans
-pub mod Verdicts
-pub mod Sights
+-- What is told a judge of a record; records played one by one.
 pub mod Notices
 pub mod Plays

@@ -10,12 +10,12 @@ use Rattle.chassis.specs.Channels.{has-agent}
 use Rattle.queue.specs.declared.Entry.{Entry}
 use Rattle.queue.specs.declared.Look.{Look}
 use Rattle.queue.specs.Changes.{look-of}
-use Rattle.steps.specs.declared.Frame.{Frame}
+use Rattle.sights.specs.declared.Frame.{Frame}
 use Rattle.steps.specs.declared.Notice.{Notice}
-use Rattle.steps.specs.declared.Plan.{Plan}
-use Rattle.steps.specs.Frames.{kind-named, transaction-named, ahead-or, answer-or, back-or}
-use Rattle.steps.specs.Sights.{next-told, sight-told}
-use Rattle.steps.specs.Verdicts.{frame-verdict}
+use Rattle.judges.specs.declared.Plan.{Plan}
+use Rattle.sights.specs.Frames.{kind-named, transaction-named, ahead-or, answer-or, back-or}
+use Rattle.sights.specs.Sights.{next-told, sight-told}
+use Rattle.judges.specs.Verdicts.{frame-verdict}
 
 abbrev pub look-told : Frame → List Entry → Look
 look-told f here = look-of (kind-named (f .event)) (transaction-named (f .event)) here

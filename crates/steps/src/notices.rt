@@ -1,37 +1,38 @@
 // What a judge has to be told of a record, in two steps: what the record's own channel shows, with the places to look at next;
 // and, of the channels there, the plan.
-use crate::Frame;
 use crate::Notice;
-use crate::Plan;
-use crate::frames::kind_named;
-use crate::frames::moves_on;
-use crate::frames::transaction_named;
-use crate::judges::judge;
-use crate::sights::ahead_or;
-use crate::sights::answer_or;
-use crate::sights::back_or;
-use crate::sights::sight_of;
 use chassis::Chan;
 use chassis::NextPlace;
 use chassis::Table;
-use chassis::routes::next_place;
+use chassis::routes::next_by;
 use events::Event;
+use judges::Plan;
+use judges::judges::judge;
 use queue::Channel;
 use queue::Look;
+use sights::Frame;
+use sights::frames::kind_named;
+use sights::frames::moves_on;
+use sights::frames::transaction_named;
+use sights::sights::ahead_or;
+use sights::sights::answer_or;
+use sights::sights::back_or;
+use sights::sights::sight_of;
 ghost use mathlib.Core.Path.{_≡_};
 ghost use mathlib.Core.Bool.{true};
 ghost use Prim.Native.Nat.{_<_};
 ghost use Rattle.chassis.specs.Channels.{has-agent, has-chan};
 ghost use Rattle.chassis.specs.Tables.{table-passes};
+ghost use Rattle.chassis.specs.Ladders.{ladder-of};
 ghost use Rattle.queue.specs.Packing.{live};
-ghost use Rattle.steps.specs.Frames.{channel-number};
-ghost use Rattle.steps.specs.Plans.{small};
-ghost use Rattle.steps.specs.Sights.{next-told};
+ghost use Rattle.sights.specs.Frames.{channel-number};
+ghost use Rattle.sights.specs.Sights.{small};
+ghost use Rattle.sights.specs.Sights.{next-told};
 ghost use Rattle.steps.specs.Notices.{look-told, Aimed, notice, told-plan};
 
 // The next place, where the kind asks for it and the entry is there.
-fn next_of(t: Table, e: Event, n: Chan, l: Look) -> NextPlace
-    requires { ⌜ (table-passes t ≡ true) × (has-chan t n ≡ true) × Aimed t l ⌝ }
+fn next_of(t: Table, ways: &[u8; 256], e: Event, n: Chan, l: Look) -> NextPlace
+    requires { ⌜ (table-passes t ≡ true) × (has-chan t n ≡ true) × Aimed t l × (now ways ≡ ladder-of t) ⌝ }
     ensures { λ r. ⌜ r ≡ next-told t e n l ⌝ }
 {
     if !moves_on(e) {
@@ -41,17 +42,18 @@ fn next_of(t: Table, e: Event, n: Chan, l: Look) -> NextPlace
         return NextPlace::Target;
     }
     let x = l.entry;
-    next_place(t, n, x.target)
+    next_by(t, ways, n, x.target)
 }
 
-pub fn noticed(t: Table, f: Frame, here: Channel) -> Notice
-    requires { ⌜ (table-passes t ≡ true) × (has-chan t (f .at) ≡ true) × Aimed t (look-told f (live here)) ⌝ }
+// The table's ladder is lent: whoever holds the state makes it once, since no step changes the table.
+pub fn noticed(t: Table, ways: &[u8; 256], f: Frame, here: Channel) -> Notice
+    requires { ⌜ (table-passes t ≡ true) × (has-chan t (f .at) ≡ true) × Aimed t (look-told f (live here)) × (now ways ≡ ladder-of t) ⌝ }
     ensures { λ r. ⌜ r ≡ notice t f (live here) ⌝ }
 {
     let e = f.event;
     let at = f.at;
     let look = here.looked(kind_named(e), transaction_named(e));
-    let next = next_of(t, e, at, look);
+    let next = next_of(t, ways, e, at, look);
     let ahead = ahead_or(at, next);
     let answer = answer_or(t, at, next);
     let back = back_or(t, at);

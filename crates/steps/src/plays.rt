@@ -1,9 +1,10 @@
 // Records played on a state. One function holds the state and stores into it; judges see what was read off its channels.
-use crate::frames::record_frame;
 use crate::notices::noticed;
 use crate::notices::told;
-use events::records::decode;
+use chassis::labels::ladder;
+use events::records::decode_at;
 use network::State;
+use sights::frames::record_frame;
 ghost use mathlib.Core.Path.{_≡_};
 ghost use mathlib.Core.Bool.{true, cond};
 ghost use mathlib.Core.List.{_++_};
@@ -30,18 +31,17 @@ pub fn play(s: State, r: &[u8], refusals: &mut [u8], values: &mut [u16]) -> Stat
     ensures { λ q. ⌜ now (refusals .exit) ≡ played-refusals s (records (now (r .entry))) ++ drop (length (now (r .entry)) / 8) (now (refusals .entry)) ⌝ }
     ensures { λ q. ⌜ now (values .exit) ≡ played-values s (records (now (r .entry))) ++ drop (length (now (r .entry)) / 8) (now (values .entry)) ⌝ }
 {
+    let ways = ladder(s.table);
     let mut state = s;
     let many = r.len() / 8;
     let mut i: usize = 0;
     while i < many {
-        let from = 8 * i;
-        let to = from + 8;
-        let d = decode(&r[from..to]);
+        let d = decode_at(r, i);
         let t = state.table;
         let f = record_frame(t, d);
         let place = f.at.0 as usize;
         let here = state.channels[place];
-        let n = noticed(t, f, here);
+        let n = noticed(t, &ways, f, here);
         let u = n.ahead.0 as usize;
         let v = n.answer.0 as usize;
         let w = n.back.0 as usize;

@@ -1,15 +1,16 @@
 // One step on its own: on record bytes, where 16 and 18 are asked first and the record is played as the only one; and on a step
 // record, for whoever holds a sound state.
-use crate::frames::event_frame;
 use crate::notices::noticed;
 use crate::notices::told;
 use crate::plays::play;
 use crate::plays::raised;
+use chassis::labels::ladder;
 use events::Answer;
 use events::Outcome;
 use events::Step;
 use network::State;
 use network::soundness::is_sound;
+use sights::frames::event_frame;
 ghost use mathlib.Core.Path.{_≡_};
 ghost use mathlib.Core.Bool.{true};
 ghost use Rattle.network.specs.Soundness.{sound};
@@ -61,11 +62,12 @@ pub fn inner_step(s: State, x: Step) -> Outcome
     ensures { λ r. ⌜ r ≡ inner-step s (x .event) ⌝ }
 {
     let t = s.table;
+    let ways = ladder(t);
     let e = x.event;
     let f = event_frame(t, e);
     let place = f.at.0 as usize;
     let here = s.channels[place];
-    let n = noticed(t, f, here);
+    let n = noticed(t, &ways, f, here);
     let u = n.ahead.0 as usize;
     let v = n.answer.0 as usize;
     let w = n.back.0 as usize;

@@ -14,3 +14,4 @@ pub mod TickAcceptsExactly
 pub mod TrueCulprit
 pub mod EachCaseIsNeeded
 pub mod WrongTicks
+pub mod RefusedTicks

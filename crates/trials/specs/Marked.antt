@@ -23,8 +23,8 @@ use Rattle.ticks.specs.Footings.{footing}
 use Rattle.ticks.specs.Conflicts.{alike, clash, conflict}
 use Rattle.ticks.specs.Ticks.{first-refused, partner, first-pair, known, end-of, values-of, tick-grounds, judged, tick}
 use Rattle.blocks.specs.Blocks.{weighed, check-is-right, all-zero, kind-place-count-are-right, bridge-records, table-of, stray-in-table, stray-behind-records, record-bytes, block-records, content-grounds, block-grounds}
-use Rattle.blocks.specs.Lines.{Line, net, e, t, stop, end}
-use Rattle.blocks.specs.Logs.{Ran, entries-left, steps, value-lines, tick-lines, block-played, blocks-played, cut, input-blocks, run}
+use Rattle.lines.specs.Lines.{Line, net, e, t, stop, end}
+use Rattle.logs.specs.Logs.{Ran, entries-left, steps, value-lines, tick-lines, block-played, blocks-played, cut, input-blocks, run}
 use Rattle.trials.specs.Streams.{padded, joined, with-check, sealed, Layout, T-with, table-bytes, network, rec, record-block, steps-at, tick-at, posted, committed-read, read-completion, placed, table, state-with}
 
 -- an input, what the program prints for it, and the state in which it ends

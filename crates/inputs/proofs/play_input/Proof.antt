@@ -1,6 +1,6 @@
 -- `play_input` ends, and asks of the library only what it may.
 -- The idea: from the first table on the state is sound, and block 65,536 is refused.
-use Rattle.blocks.proofs.Texts.{written-length}
+use Rattle.lines.proofs.Texts.{written-length}
 use Rattle.inputs.proofs.Going.{next-right}
 use borrow.Author.Tests.{not-false}
 use Rattle.events.proofs.SoundStays.{Right}

@@ -3,7 +3,7 @@
 use mathlib.Core.List.{append-nil}
 use mathlib.Core.Path.{refl, sym, _∙_}
 use borrow.Author.Needs.{needs}
-use Rattle.blocks.specs.Lines.{texts}
+use Rattle.lines.specs.Lines.{texts}
 use Rattle.inputs.proofs.Going.{end-later}
 use Rattle.inputs.proofs.play_next.Statement.{statement}
 use Rattle.inputs.proofs.play_next.Tie as tie

@@ -1,4 +1,4 @@
--- `is_crossed` follows the way between two agents' buses, with the ladder made once; a master channel is never crossed,
+-- `is_crossed` follows the way between two agents' buses down the lent ladder; a master channel is never crossed,
 -- and from a bus to itself there is no way. What `crosses` asks for follows from `table-passes`.
 use mathlib.Core.Path.{ap, sym, _∙_}
 use borrow.Author.Needs.{needs}
@@ -8,7 +8,7 @@ use Rattle.base.proofs.Cases.{cases}
 use Rattle.chassis.specs.Channels.{home}
 use Rattle.chassis.specs.Routes.{way}
 use Rattle.chassis.proofs.Numbering.{crossed-master}
-use Rattle.chassis.proofs.Places.{here, in-range, agent-low, home-there}
+use Rattle.chassis.proofs.Places.{here, agent-low, home-there}
 use Rattle.chassis.proofs.routes.is_crossed.Statement.{statement}
 use Rattle.chassis.proofs.routes.is_crossed.Tie as tie
 
@@ -37,21 +37,18 @@ returns-2 c =
     let a = c .before .before .before .home2 .ensures in
     rw (here (c .before .before .before .before .before .before .before .args .t) _ _ (ap (λ b. b .0) (sym m) ∙ c .if2 .taken ∙ ap (λ b. b .0) a))
 
-ladder-requires : tie.Need-ladder-requires
-ladder-requires c κs = in-range (c .before .before .before .before .before .before .before .args .t) (c .before .before .before .before .before .before .before .pre .0)
-
 crosses-requires : tie.Need-crosses-requires
 crosses-requires c κs =
-    let a = c .before .before .before .before .before .before .before .before .before .args in
-    let p = c .before .before .before .before .before .before .before .before .before .pre in (
+    let a = c .before .before .before .before .before .before .before .args in
+    let p = c .before .before .before .before .before .before .before .pre in (
       p .0,
-      c .before .ladder .ensures,
-      rw (c .before .before .before .before .before .before .home .ensures) (home-there (a .t) (p .0) (a .m) (p .1)),
-      rw (c .before .before .before .before .before .home2 .ensures) (home-there (a .t) (p .0) (a .a) (p .2)),
+      p .3,
+      rw (c .before .before .before .before .home .ensures) (home-there (a .t) (p .0) (a .m) (p .1)),
+      rw (c .before .before .before .home2 .ensures) (home-there (a .t) (p .0) (a .a) (p .2)),
     )
 
 returns-3 : tie.Need-returns-3
-returns-3 c = rw (c .crosses .ensures, c .before .before .before .before .before .before .before .home .ensures, c .before .before .before .before .before .before .home2 .ensures)
+returns-3 c = rw (c .crosses .ensures, c .before .before .before .before .before .home .ensures, c .before .before .before .before .home2 .ensures)
 
 pub is-crossed-spec : {M : Type 1} → statement M
 is-crossed-spec =
@@ -62,6 +59,5 @@ is-crossed-spec =
     home-requires
     home-requires-2
     returns-2
-    ladder-requires
     crosses-requires
     returns-3)

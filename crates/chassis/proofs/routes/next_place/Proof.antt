@@ -1,52 +1,17 @@
--- `next_place` is the first place of the way; where the out-bus is the agent's bus there is no way to go.
--- What `next_hop` asks for follows from `table-passes`.
-use mathlib.Core.Path.{ap, sym, _∙_}
+-- `next_place` makes the ladder and asks it.
 use borrow.Author.Needs.{needs}
-use Rattle.chassis.specs.Routes.{next-place}
-use Rattle.chassis.proofs.Places.{here, in-range, agent-low, home-there, out-bus-there, reached}
+use Rattle.chassis.proofs.Places.{in-range}
 use Rattle.chassis.proofs.routes.next_place.Statement.{statement}
 use Rattle.chassis.proofs.routes.next_place.Tie as tie
 
-out-bus-requires : tie.Need-out-bus-requires
-out-bus-requires c κs = search needs
+ladder-requires : tie.Need-ladder-requires
+ladder-requires c κs = in-range (c .args .t) (c .pre .0)
 
-home-requires : tie.Need-home-requires
-home-requires c κs = agent-low (c .before .args .t) (c .before .pre .0) (c .before .args .a) (c .before .pre .2)
+next-by-requires : tie.Need-next-by-requires
+next-by-requires c κs = let s = c .before .before in (s .pre .0, c .before .ladder .ensures, s .pre .1, s .pre .2)
 
 returns : tie.Need-returns
-unfolding next-place
-returns c =
-    let o = c .before .before .before .before .out-bus .ensures in
-    let h = c .before .before .before .home .ensures in
-    rw (here (c .before .before .before .before .before .args .t) _ _ (ap (λ b. b .0) (sym o) ∙ c .if1 .taken ∙ ap (λ b. b .0) h))
-
-ladder-requires : tie.Need-ladder-requires
-ladder-requires c κs = in-range (c .before .before .before .before .before .args .t) (c .before .before .before .before .before .pre .0)
-
-cast-k : tie.Need-cast-k
-cast-k c = search needs
-
-next-hop-requires : tie.Need-next-hop-requires
-next-hop-requires c κs =
-    let a = c .before .before .before .before .before .before .before .before .args in
-    let p = c .before .before .before .before .before .before .before .before .pre in (
-      in-range (a .t) (p .0),
-      c .before .before .ladder .ensures,
-      rw (c .before .before .before .before .before .before .before .out-bus .ensures, c .before .before .before .before .before .before .home .ensures) (reached (a .t) (p .0) _ _ (out-bus-there (a .t) (p .0) (a .n) (p .1)) (home-there (a .t) (p .0) (a .a) (p .2))),
-    )
-
-returns-2 : tie.Need-returns-2
-unfolding next-place
-returns-2 c = rw (c .next-hop .ensures, c .before .before .before .before .before .before .before .before .out-bus .ensures, c .before .before .before .before .before .before .before .home .ensures)
+returns c = c .next-by .ensures
 
 pub next-place-spec : {M : Type 1} → statement M
-next-place-spec =
-    tie.close
-    (tie.spec
-    out-bus-requires
-    home-requires
-    returns
-    ladder-requires
-    cast-k
-    next-hop-requires
-    returns-2)
+next-place-spec = tie.close (tie.spec ladder-requires next-by-requires returns)

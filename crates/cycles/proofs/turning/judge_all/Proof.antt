@@ -1,27 +1,28 @@
--- `judge_all` is the tick's answer past 16, 18 and 17, with the turns of all records where it is accepted.
+-- `judge_all` is the tick's answer past 16, 18 and 17, with the turns of the records up to the first that is refused.
 -- The idea: what is left to judge, judged from here, gives the answer (`Judging`); each record is read off the one state.
 use mathlib.Core.Path.{_≡_, refl, ap, sym, subst, _∙_}
 use native.Mathlib.Omega.{arith}
 use Prim.Native.Nat.{ℕ, _≤_, _+_, _-_, _*_, _/_}
-use lib.ListN.{length, take, drop}
+use lib.ListN.{length, replicate}
 use Rattle.base.proofs.Walks.{owned}
+use Rattle.chassis.proofs.Places.{in-range}
 use Rattle.network.specs.Nets.{view}
 use Rattle.network.proofs.OfType.{of-type}
-use Rattle.events.specs.Records.{decoded}
 use Rattle.events.proofs.SoundStays.{Right}
-use Rattle.steps.specs.declared.Frame.{Frame}
-use Rattle.steps.specs.declared.Plan.{Plan}
+use Rattle.sights.specs.declared.Frame.{Frame}
+use Rattle.judges.specs.declared.Plan.{Plan}
+use Rattle.steps.proofs.Carried.{table-of}
 use Rattle.steps.proofs.Reading.{Framed, framed, Noticed, noticed, Planned, planned}
 use Rattle.cycles.specs.Turns.{turn}
-use Rattle.cycles.proofs.Judging.{Judging, judge-first, judge-on, judge-stop, all-judged, pairs-decide, turn-read, never}
+use Rattle.cycles.proofs.Judging.{Judging, judge-first, judge-on, judge-stop, made-stop, made-over, pairs-decide, in-their-places, turn-read}
 use Rattle.cycles.proofs.turning.judge_all.Statement.{statement}
 use Rattle.cycles.proofs.turning.judge_all.Tie as tie
 
 abbrev Inv-loop : tie.InvT-loop
-Inv-loop r s turns₀ many t i₀ turns i = Judging (view s) r many turns i
+Inv-loop r s turns₀ many t ways i₀ turns i = Judging (view s) r many turns i
 
 abbrev μ-loop : tie.MeasureT-loop
-μ-loop r s turns₀ many t i₀ turns i = many - i
+μ-loop r s turns₀ many t ways i₀ turns i = many - i
 
 -- ---- what is known of a turn
 
@@ -29,55 +30,37 @@ right : (c : tie.Start Inv-loop μ-loop) → Right (c .args .t1)
 right c = record { shaped = of-type (c .args .t1) _ (c .good .0); is-sound = c .pre .0 }
 
 framed-at : (c : tie.After-record-frame Inv-loop μ-loop) → Framed (c .before .before .before .before .before .before .before .before .args .t1) (c .record-frame .result)
-framed-at c = let s = c .before .before .before .before .before .before .before .before in framed (s .args .t1) (right s) (c .before .decode .result) (c .record-frame .result) (c .record-frame .ensures)
+framed-at c = let s = c .before .before .before .before .before .before .before .before in framed (s .args .t1) (right s) (c .before .decode-at .result) (c .record-frame .result) (c .record-frame .ensures)
 
 noticed-at : (c : tie.After-noticed Inv-loop μ-loop) → Noticed (c .noticed .result)
 noticed-at c =
-    let s = c .before .before .before .before .before .before .before .before .before .before .before in
-    let f = c .before .before .before .record-frame in
-    noticed (s .args .t1) (right s) (c .before .before .before .before .decode .result) (f .result) (f .ensures) (c .noticed .result) (c .noticed .ensures)
+    let s = c .before .before .before .before .before .before .before .before .before .before .before .before in
+    let f = c .before .before .before .before .record-frame in
+    noticed (s .args .t1) (right s) (c .before .before .before .before .before .decode-at .result) (f .result) (f .ensures) (c .noticed .result) (c .noticed .ensures)
 
-planned-at : (c : tie.After-told Inv-loop μ-loop) → Planned (c .before .before .before .before .before .before .before .before .before .before .before .before .before .before .before .before .before .before .before .before .before .args .t1) (c .before .before .before .before .before .before .before .before .before .before .before .before .before .before .decode .result) (c .told .result)
+planned-at : (c : tie.After-told Inv-loop μ-loop) → Planned (c .before .before .before .before .before .before .before .before .before .before .before .before .before .before .before .before .before .before .before .before .before .before .args .t1) (c .before .before .before .before .before .before .before .before .before .before .before .before .before .before .before .decode-at .result) (c .told .result)
 planned-at c =
-    let s = c .before .before .before .before .before .before .before .before .before .before .before .before .before .before .before .before .before .before .before .before .before in
-    let f = c .before .before .before .before .before .before .before .before .before .before .before .before .before .record-frame in
+    let s = c .before .before .before .before .before .before .before .before .before .before .before .before .before .before .before .before .before .before .before .before .before .before in
+    let f = c .before .before .before .before .before .before .before .before .before .before .before .before .before .before .record-frame in
     let n = c .before .before .before .before .before .before .before .before .before .before .noticed in
-    planned (s .args .t1) (right s) (c .before .before .before .before .before .before .before .before .before .before .before .before .before .before .decode .result) (f .result) (f .ensures) (n .result) (n .ensures) (c .told .result) (c .told .ensures)
-
-decode-is : (c : tie.After-decode Inv-loop μ-loop) → c .decode .result ≡ decoded (take 8 (drop (8 * (c .before .before .before .loop .i)) (c .before .before .before .before .before .before .before .args .r .now)))
-decode-is c =
-    let i = c .before .before .before .loop .i in
-    let e : (8 * i + 8) - 8 * i ≡ 8 = omega arith in
-    c .decode .ensures ∙ rw e
+    planned (s .args .t1) (right s) (c .before .before .before .before .before .before .before .before .before .before .before .before .before .before .before .decode-at .result) (f .result) (f .ensures) (n .result) (n .ensures) (c .told .result) (c .told .ensures)
 
 -- ---- the places are there
 
 no-turn-requires : tie.Need-no-turn-requires Inv-loop μ-loop
 no-turn-requires c κs = search owned
 
+ladder-requires : tie.Need-ladder-requires Inv-loop μ-loop
+ladder-requires c κs = let s = c .before .before .before in in-range (s .args .t1 .table) (table-of (s .args .t1) (right s))
+
 loop-holds : tie.Need-loop-holds Inv-loop μ-loop
 loop-holds c =
-    let s = c .before .before .before in
+    let s = c .before .before .before .before in
     let f = s .pre .1 in
-    judge-first (view (s .args .t1)) (s .args .r .now) _ _ refl (omega arith) (search owned)
+    judge-first (view (s .args .t1)) (s .args .r .now) _ _ refl (omega arith) (ap (replicate 63) (c .before .before .no-turn .ensures))
 
-mul-from : tie.Need-mul-from Inv-loop μ-loop
-mul-from c = let f = c .before .loop .inv .few in let t = c .loop-test in omega arith
-
-add-to : tie.Need-add-to Inv-loop μ-loop
-add-to c = let f = c .before .loop .inv .few in let t = c .loop-test in omega arith
-
-sub-decode : tie.Need-sub-decode Inv-loop μ-loop
-sub-decode c = let k = c .before .loop .inv .count in let t = c .loop-test in omega arith
-
-part-decode-start : tie.Need-part-decode-start Inv-loop μ-loop
-part-decode-start c = let k = c .before .loop .inv .count in let t = c .loop-test in omega arith
-
-part-decode-end : tie.Need-part-decode-end Inv-loop μ-loop
-part-decode-end c = let k = c .before .loop .inv .count in let t = c .loop-test in omega arith
-
-decode-requires : tie.Need-decode-requires Inv-loop μ-loop
-decode-requires c κs = search owned
+decode-at-requires : tie.Need-decode-at-requires Inv-loop μ-loop
+decode-at-requires c κs = let k = c .before .loop .inv .count in let t = c .loop-test in omega arith
 
 record-frame-requires : tie.Need-record-frame-requires Inv-loop μ-loop
 record-frame-requires c κs = search owned
@@ -92,7 +75,7 @@ element-copy-out-here : tie.Need-element-copy-out-here Inv-loop μ-loop
 element-copy-out-here c = framed-at (c .before) .at
 
 noticed-requires : tie.Need-noticed-requires Inv-loop μ-loop
-noticed-requires c κs = let f = framed-at (c .before .before) in (f .passes, f .has-at, f .aimed)
+noticed-requires c κs = let f = framed-at (c .before .before .before) in (f .passes, f .has-at, f .aimed, c .before .before .before .before .before .before .before .ladder .ensures)
 
 cast-u : tie.Need-cast-u Inv-loop μ-loop
 cast-u c = search owned
@@ -128,30 +111,32 @@ mul-count : tie.Need-mul-count Inv-loop μ-loop
 mul-count c = search owned
 
 element-copy-out-count : tie.Need-element-copy-out-count Inv-loop μ-loop
-element-copy-out-count c = framed-at (c .before .before .before .before .before .before .before .before .before .before .before) .master
+element-copy-out-count c = framed-at (c .before .before .before .before .before .before .before .before .before .before .before .before) .master
 
 told-requires : tie.Need-told-requires Inv-loop μ-loop
-told-requires c κs = (framed-at (c .before .before .before .before .before .before .before .before .before .before .before .before) .number, noticed-at (c .before .before .before .before .before .before .before .before .before) .next)
+told-requires c κs = (framed-at (c .before .before .before .before .before .before .before .before .before .before .before .before .before) .number, noticed-at (c .before .before .before .before .before .before .before .before .before) .next)
 
 -- ---- refused alone
 
-cast-t50 : tie.Need-cast-t50 Inv-loop μ-loop
-cast-t50 c = let f = c .before .before .before .before .before .before .before .before .before .before .before .before .before .before .before .before .before .before .loop .inv .few in let t = c .before .before .before .before .before .before .before .before .before .before .before .before .before .before .before .before .before .loop-test in omega arith
+cast-t48 : tie.Need-cast-t48 Inv-loop μ-loop
+cast-t48 c = let f = c .before .before .before .before .before .before .before .before .before .before .before .before .before .before .before .before .before .before .loop .inv .few in let t = c .before .before .before .before .before .before .before .before .before .before .before .before .before .before .before .before .before .loop-test in omega arith
 
 returns : tie.Need-returns Inv-loop μ-loop
 returns c =
-    let a = c .before .before .before .before .before .before .before .before .before .before .before .before .before .before .before .before .before .before .before .before .before .before .args in
+    let a = c .before .before .before .before .before .before .before .before .before .before .before .before .before .before .before .before .before .before .before .before .before .before .before .args in
     let lp = c .before .before .before .before .before .before .before .before .before .before .before .before .before .before .before .before .before .before .loop in
-    let d = c .before .before .before .before .before .before .before .before .before .before .before .before .before .before .before in
-    let p = c .before in (
-      judge-stop (view (a .t1)) (a .r .now) _ (lp .turns) (lp .i) (lp .inv) (let t = c .before .before .before .before .before .before .before .before .before .before .before .before .before .before .before .before .before .loop-test in omega arith) (d .decode .result) (decode-is d) (p .told .result) (planned-at p .is) (c .if1 .taken),
-      λ k. absurd (never _ _ k),
+    let d = c .before .before .before .before .before .before .before .before .before .before .before .before .before .before .before .before in
+    let p = c .before in
+    let more = c .before .before .before .before .before .before .before .before .before .before .before .before .before .before .before .before .before .loop-test in
+    let z = c .if1 .taken in (
+      judge-stop (view (a .t1)) (a .r .now) _ (lp .turns) (lp .i) (lp .inv) (omega arith) (d .decode-at .result) (d .decode-at .ensures) (p .told .result) (planned-at p .is) z,
+      in-their-places (view (a .t1)) (a .r .now) _ (lp .turns) (lp .i) (lp .inv) (made-stop (view (a .t1)) (a .r .now) _ (lp .turns) (lp .i) (lp .inv) (omega arith) (d .decode-at .result) (d .decode-at .ensures) (p .told .result) (planned-at p .is) z),
     )
 
 -- ---- accepted alone
 
 foot-of-requires : tie.Need-foot-of-requires Inv-loop μ-loop
-foot-of-requires c κs = let f = framed-at (c .before .before .before .before .before .before .before .before .before .before .before .before .before .before) in (f .passes, f .named, noticed-at (c .before .before .before .before .before .before .before .before .before .before .before) .next)
+foot-of-requires c κs = let f = framed-at (c .before .before .before .before .before .before .before .before .before .before .before .before .before .before .before) in (f .passes, f .named, noticed-at (c .before .before .before .before .before .before .before .before .before .before .before) .next)
 
 mul-turns : tie.Need-mul-turns Inv-loop μ-loop
 mul-turns c = let f = c .before .before .before .before .before .before .before .before .before .before .before .before .before .before .before .before .before .before .before .loop .inv .few in let t = c .before .before .before .before .before .before .before .before .before .before .before .before .before .before .before .before .before .before .loop-test in omega arith
@@ -167,15 +152,15 @@ loop-less c = let t = c .before .before .before .before .before .before .before 
 
 loop-again : tie.Need-loop-again Inv-loop μ-loop
 loop-again c =
-    let st = c .before .before .before .before .before .before .before .before .before .before .before .before .before .before .before .before .before .before .before .before .before .before .before in
+    let st = c .before .before .before .before .before .before .before .before .before .before .before .before .before .before .before .before .before .before .before .before .before .before .before .before in
     let a = st .args in
     let lp = c .before .before .before .before .before .before .before .before .before .before .before .before .before .before .before .before .before .before .before .loop in
-    let d = c .before .before .before .before .before .before .before .before .before .before .before .before .before .before .before .before in
-    let f = c .before .before .before .before .before .before .before .before .before .before .before .before .before .before .before .record-frame in
+    let d = c .before .before .before .before .before .before .before .before .before .before .before .before .before .before .before .before .before in
+    let f = c .before .before .before .before .before .before .before .before .before .before .before .before .before .before .before .before .record-frame in
     let n = c .before .before .before .before .before .before .before .before .before .before .before .before .noticed in
     let p = c .before .before in
-    judge-on (view (a .t1)) (a .r .now) _ (lp .turns) (lp .i) (lp .inv) (let t = c .before .before .before .before .before .before .before .before .before .before .before .before .before .before .before .before .before .before .loop-test in omega arith) (d .decode .result) (decode-is d) _
-    (turn-read (a .t1) (right st) (d .decode .result) (f .result) (f .ensures) (n .result) (n .ensures) (p .told .result) (planned-at p .is) (c .foot-of .result) (c .foot-of .ensures))
+    judge-on (view (a .t1)) (a .r .now) _ (lp .turns) (lp .i) (lp .inv) (let t = c .before .before .before .before .before .before .before .before .before .before .before .before .before .before .before .before .before .before .loop-test in omega arith) (d .decode-at .result) (d .decode-at .ensures) _
+    (turn-read (a .t1) (right st) (d .decode-at .result) (f .result) (f .ensures) (n .result) (n .ensures) (p .told .result) (planned-at p .is) (c .foot-of .result) (c .foot-of .ensures))
     (c .before .if1 .left)
 
 first-pair-requires : tie.Need-first-pair-requires Inv-loop μ-loop
@@ -183,11 +168,13 @@ first-pair-requires c κs = c .before .loop .inv .few
 
 returns-2 : tie.Need-returns-2 Inv-loop μ-loop
 returns-2 c =
-    let a = c .before .before .before .before .before .before .args in
+    let a = c .before .before .before .before .before .before .before .args in
     let lp = c .before .before .loop in
     let t = c .before .loop-test in
-    let over : length (a .r .now) / 8 ≤ lp .i = omega arith in
-    (c .first-pair .ensures ∙ pairs-decide (view (a .t1)) (a .r .now) _ (lp .turns) (lp .i) (lp .inv) over, λ k. all-judged (view (a .t1)) (a .r .now) _ (lp .turns) (lp .i) (lp .inv) over)
+    let over : length (a .r .now) / 8 ≤ lp .i = omega arith in (
+      c .first-pair .ensures ∙ pairs-decide (view (a .t1)) (a .r .now) _ (lp .turns) (lp .i) (lp .inv) over,
+      in-their-places (view (a .t1)) (a .r .now) _ (lp .turns) (lp .i) (lp .inv) (made-over (view (a .t1)) (a .r .now) _ (lp .turns) (lp .i) (lp .inv) over),
+    )
 
 pub judge-all-spec : {M : Type 1} → statement M
 judge-all-spec =
@@ -196,13 +183,9 @@ judge-all-spec =
     Inv-loop
     μ-loop
     no-turn-requires
+    ladder-requires
     loop-holds
-    mul-from
-    add-to
-    sub-decode
-    part-decode-start
-    part-decode-end
-    decode-requires
+    decode-at-requires
     record-frame-requires
     cast-place
     mul-here
@@ -221,7 +204,7 @@ judge-all-spec =
     mul-count
     element-copy-out-count
     told-requires
-    cast-t50
+    cast-t48
     returns
     foot-of-requires
     mul-turns

@@ -18,16 +18,16 @@ use Rattle.network.proofs.soundness.entries_fit.Statement.{statement}
 use Rattle.network.proofs.soundness.entries_fit.Tie as tie
 
 abbrev Inv-loop : tie.InvT-loop
-Inv-loop t begins n c count i₀ i = Left false (λ _. fit (counting t begins) n) (c .entries) (c .count) i (all (fit (counting t begins) n) (live c))
+Inv-loop t ways begins n c count i₀ i = Left false (λ _. fit (counting t begins) n) (c .entries) (c .count) i (all (fit (counting t begins) n) (live c))
 
 abbrev μ-loop : tie.MeasureT-loop
-μ-loop t begins n c count i₀ i = c .count - i
+μ-loop t ways begins n c count i₀ i = c .count - i
 
 loop-holds : tie.Need-loop-holds Inv-loop μ-loop
 loop-holds c =
     let a = c .args in
-    let long : length (a .t4 .entries) ≡ 24 = search owned in
-    all-left (fit (counting (a .t) (a .begins)) (a .n)) (a .t4 .entries) (a .t4 .count) 0 (omega arith)
+    let long : length (a .t5 .entries) ≡ 24 = search owned in
+    all-left (fit (counting (a .t) (a .begins)) (a .n)) (a .t5 .entries) (a .t5 .count) 0 (omega arith)
 
 mul-x : tie.Need-mul-x Inv-loop μ-loop
 mul-x c = search needs

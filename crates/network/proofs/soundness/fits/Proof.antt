@@ -45,6 +45,7 @@ stands-right-requires c κs = (
   by-call-not _ _ (c .before .before .before .before .before .before .before .has-agent .ensures) (c .before .before .before .before .before .before .if3 .left),
   by-call-not _ _ (c .before .before .before .before .before .has-agent2 .ensures) (c .before .before .before .before .if4 .left),
   c .before .before .before .before .before .before .before .before .before .before .before .before .pre .1,
+  c .before .before .before .before .before .before .before .before .before .before .before .before .pre .2,
 )
 
 returns-7 : tie.Need-returns-7

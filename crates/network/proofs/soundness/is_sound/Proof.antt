@@ -10,6 +10,7 @@ use Rattle.base.proofs.Cases.{by-call-not, by-call-so}
 use Rattle.base.proofs.Walks.{owned}
 use Rattle.base.proofs.Loops.{Left, cells-left, stops, goes-on, ends}
 use Rattle.chassis.specs.Tables.{table-passes}
+use Rattle.chassis.proofs.Places.{in-range}
 use Rattle.chassis.proofs.Asking.{answered-passes, answered-refused}
 use Rattle.network.specs.Shapes.{no-channel}
 use Rattle.network.specs.Testing.{sound-channel}
@@ -18,11 +19,11 @@ use Rattle.network.proofs.soundness.is_sound.Statement.{statement}
 use Rattle.network.proofs.soundness.is_sound.Tie as tie
 
 abbrev Inv-loop : tie.InvT-loop
-Inv-loop s t begins n₀ n =
+Inv-loop s t ways begins n₀ n =
     Left false (sound-channel (s .table) (s .begins)) (s .channels) 62 n (all-from 0 (sound-channel (s .table) (s .begins)) (s .channels))
 
 abbrev μ-loop : tie.MeasureT-loop
-μ-loop s t begins n₀ n = 62 - n
+μ-loop s t ways begins n₀ n = 62 - n
 
 table-answer-requires : tie.Need-table-answer-requires Inv-loop μ-loop
 table-answer-requires c κs = search needs
@@ -40,9 +41,12 @@ enum-told c = search needs
 passes : (c : tie.After-enum-told Inv-loop μ-loop) → table-passes (c .before .before .before .before .args .t1 .table) ≡ true
 passes c = answered-passes _ (sym (c .before .before .table-answer .ensures) ∙ c .enum-told .given .1)
 
+ladder-requires : tie.Need-ladder-requires Inv-loop μ-loop
+ladder-requires c κs = in-range _ (passes c)
+
 loop-holds : tie.Need-loop-holds Inv-loop μ-loop
 loop-holds c =
-    let s = c .before .before .before .before .before .args .t1 in
+    let s = c .before .before .before .before .before .before .args .t1 in
     cells-left (s .channels) 62 0 (search owned) (sound-channel (s .table) (s .begins))
 
 cast-i : tie.Need-cast-i Inv-loop μ-loop
@@ -55,13 +59,13 @@ element-copy-out-c : tie.Need-element-copy-out-c Inv-loop μ-loop
 element-copy-out-c c = search needs
 
 is-sound-channel-requires : tie.Need-is-sound-channel-requires Inv-loop μ-loop
-is-sound-channel-requires c κs = (passes (c .before .before .before .before), omega arith)
+is-sound-channel-requires c κs = (passes (c .before .before .before .before .before .before), omega arith, c .before .before .before .before .before .ladder .ensures)
 
 returns-2 : tie.Need-returns-2 Inv-loop μ-loop
 returns-2 c =
-    let s = c .before .before .before .before .before .before .before .before .before .before .args .t1 in
-    bad-channel s (passes (c .before .before .before .before .before .before))
-    (stops no-channel (c .before .before .before .before .loop .inv) (search needs) (by-call-so _ _ (c .before .is-sound-channel .ensures) (c .if1 .taken)))
+    let s = c .before .before .before .before .before .before .before .before .before .before .before .before .args .t1 in
+    bad-channel s (passes (c .before .before .before .before .before .before .before .before))
+    (stops no-channel (c .before .before .before .before .before .loop .inv) (search needs) (by-call-so _ _ (c .before .is-sound-channel .ensures) (c .if1 .taken)))
 
 add-n : tie.Need-add-n Inv-loop μ-loop
 add-n c = search needs
@@ -70,16 +74,16 @@ loop-less : tie.Need-loop-less Inv-loop μ-loop
 loop-less c = search needs
 
 loop-again : tie.Need-loop-again Inv-loop μ-loop
-loop-again c = goes-on no-channel (c .before .before .before .before .loop .inv) (search needs) (by-call-not _ _ (c .before .is-sound-channel .ensures) (c .if1 .left))
+loop-again c = goes-on no-channel (c .before .before .before .before .before .loop .inv) (search needs) (by-call-not _ _ (c .before .is-sound-channel .ensures) (c .if1 .left))
 
 are-sound-counts-requires : tie.Need-are-sound-counts-requires Inv-loop μ-loop
 are-sound-counts-requires c κs = search needs
 
 returns-3 : tie.Need-returns-3 Inv-loop μ-loop
 returns-3 c =
-    let s = c .before .before .before .before .before .before .before .before .args .t1 in
+    let s = c .before .before .before .before .before .before .before .before .before .args .t1 in
     c .are-sound-counts .ensures
-    ∙ by-counts s (passes (c .before .before .before .before)) (sym (ends (c .before .before .loop .inv) (search needs)))
+    ∙ by-counts s (passes (c .before .before .before .before .before)) (sym (ends (c .before .before .loop .inv) (search needs)))
 
 pub is-sound-spec : {M : Type 1} → statement M
 is-sound-spec =
@@ -91,6 +95,7 @@ is-sound-spec =
     enum-known-checked
     returns
     enum-told
+    ladder-requires
     loop-holds
     cast-i
     mul-c

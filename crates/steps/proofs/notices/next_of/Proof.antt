@@ -17,16 +17,16 @@ returns-2 c =
     let l = c .before .before .before .before .args .l in
     rw (sym (c .before .before .before .moves-on .ensures) ∙ not-false (c .before .before .before .moves-on .result) (c .before .before .if1 .left), not-true (l .found) (c .if2 .taken))
 
-next-place-requires : tie.Need-next-place-requires
-next-place-requires c κs =
+next-by-requires : tie.Need-next-by-requires
+next-by-requires c κs =
     let s = c .before .before .before .before .before in
-    (s .pre .0, s .pre .1, s .pre .2 (not-false (s .args .l .found) (c .before .if2 .left)))
+    (s .pre .0, s .pre .3, s .pre .1, s .pre .2 (not-false (s .args .l .found) (c .before .if2 .left)))
 
 returns-3 : tie.Need-returns-3
 returns-3 c =
     let l = c .before .before .before .before .before .before .args .l in
-    rw (sym (c .before .before .before .before .before .moves-on .ensures) ∙ not-false (c .before .before .before .before .before .moves-on .result) (c .before .before .before .before .if1 .left), not-false (l .found) (c .before .before .if2 .left)) (c .next-place .ensures)
+    rw (sym (c .before .before .before .before .before .moves-on .ensures) ∙ not-false (c .before .before .before .before .before .moves-on .result) (c .before .before .before .before .if1 .left), not-false (l .found) (c .before .before .if2 .left)) (c .next-by .ensures)
 
 pub next-of-spec : {M : Type 1} → statement M
 next-of-spec =
-    tie.close (tie.spec moves-on-requires returns returns-2 next-place-requires returns-3)
+    tie.close (tie.spec moves-on-requires returns returns-2 next-by-requires returns-3)

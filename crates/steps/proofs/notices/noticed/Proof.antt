@@ -4,7 +4,7 @@ use mathlib.Core.Path.{_≡_, ap, sym, subst, _∙_}
 use native.Mathlib.Omega.{arith}
 use Rattle.queue.specs.Packing.{live}
 use Rattle.steps.specs.Notices.{look-told, Aimed, notice}
-use Rattle.steps.proofs.There.{one-of-62, Onward, told-onward, onward-small}
+use Rattle.sights.proofs.Onward.{one-of-62, Onward, told-onward, onward-small}
 use borrow.Author.Needs.{needs}
 use Rattle.steps.proofs.notices.noticed.Statement.{statement}
 use Rattle.steps.proofs.notices.noticed.Tie as tie
@@ -24,7 +24,7 @@ looked-requires c κs = search needs
 next-of-requires : tie.Need-next-of-requires
 next-of-requires c κs =
     let s = c .before .before .before .before in
-    (s .pre .0, s .pre .1, subst (Aimed (s .args .t)) (sym (look-is c)) (s .pre .2))
+    (s .pre .0, s .pre .1, subst (Aimed (s .args .t)) (sym (look-is c)) (s .pre .2), s .pre .3)
 
 ahead-or-requires : tie.Need-ahead-or-requires
 ahead-or-requires c κs = search needs

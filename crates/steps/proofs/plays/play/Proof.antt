@@ -1,13 +1,14 @@
 -- `play` plays records one by one: state, refusals and values are those of the definition.
 -- The idea: what is left to do, done from here, is the whole (`Playing`); a turn reads what the state shows, so its plan is the record's own, and stores what the step stores.
-use lib.ListN.{length, take, drop}
-use mathlib.Core.Path.{_≡_, refl, ap, _∙_}
+use lib.ListN.{length}
+use mathlib.Core.Path.{_≡_, refl, ap, sym, _∙_}
+use Rattle.chassis.specs.Ladders.{ladder-of}
+use Rattle.chassis.proofs.Places.{in-range}
 use Rattle.network.proofs.OfType.{of-type}
-use Rattle.events.specs.Records.{decoded}
 use Rattle.events.proofs.SoundStays.{Right}
-use Rattle.steps.specs.declared.Frame.{Frame}
-use Rattle.steps.specs.declared.Plan.{Plan}
-use Rattle.steps.proofs.Carried.{stored, stores, plan-number, plan-value}
+use Rattle.sights.specs.declared.Frame.{Frame}
+use Rattle.judges.specs.declared.Plan.{Plan}
+use Rattle.steps.proofs.Carried.{table-of, stored, stores, plan-number, plan-value}
 use Rattle.steps.proofs.Reading.{Framed, framed, Noticed, noticed, Planned, planned}
 use Rattle.steps.proofs.Playing.{Playing, at-first, one-more, no-more, places}
 use Rattle.base.proofs.Walks.{owned}
@@ -17,55 +18,46 @@ use Rattle.steps.proofs.plays.play.Statement.{statement}
 use Rattle.steps.proofs.plays.play.Tie as tie
 
 abbrev Inv-loop : tie.InvT-loop
-Inv-loop r refusals₀ values₀ state₀ many i₀ refusals values state i =
+Inv-loop r refusals₀ values₀ ways state₀ many i₀ refusals values state i =
     Playing r refusals₀ values₀ state₀ many refusals values state i × (many ≤ length refusals₀) × (many ≤ length values₀)
 
 abbrev μ-loop : tie.MeasureT-loop
-μ-loop r refusals₀ values₀ state₀ many i₀ refusals values state i = many - i
+μ-loop r refusals₀ values₀ ways state₀ many i₀ refusals values state i = many - i
+
+came-in : (c : tie.Start Inv-loop μ-loop) → Right (c .args .s)
+came-in c = record { shaped = of-type (c .args .s) _ (c .good .0); is-sound = c .pre .0 }
 
 -- ---- what is known of a turn
 
 right : (c : tie.In-loop Inv-loop μ-loop) → Right (c .before .loop .state)
 right c = c .before .loop .inv .0 .right
 
-framed-at : (c : tie.After-record-frame Inv-loop μ-loop) → Framed (c .before .before .before .before .before .loop .state) (c .record-frame .result)
-framed-at c = framed (c .before .before .before .before .before .loop .state) (right (c .before .before .before .before)) (c .before .before .decode .result) (c .record-frame .result) (c .record-frame .ensures)
+framed-at : (c : tie.After-record-frame Inv-loop μ-loop) → Framed (c .before .before .before .before .loop .state) (c .record-frame .result)
+framed-at c = framed (c .before .before .before .before .loop .state) (right (c .before .before .before)) (c .before .before .decode-at .result) (c .record-frame .result) (c .record-frame .ensures)
 
 noticed-at : (c : tie.After-noticed Inv-loop μ-loop) → Noticed (c .noticed .result)
 noticed-at c =
-    let f = c .before .before .before in
-    noticed (f .before .before .before .before .before .loop .state) (right (f .before .before .before .before)) (f .before .before .decode .result) (f .record-frame .result) (f .record-frame .ensures) (c .noticed .result) (c .noticed .ensures)
+    let f = c .before .before .before .before in
+    noticed (f .before .before .before .before .loop .state) (right (f .before .before .before)) (f .before .before .decode-at .result) (f .record-frame .result) (f .record-frame .ensures) (c .noticed .result) (c .noticed .ensures)
 
-planned-at : (c : tie.After-told Inv-loop μ-loop) → Planned (c .before .before .before .before .before .before .before .before .before .before .before .before .before .before .before .before .before .loop .state) (c .before .before .before .before .before .before .before .before .before .before .before .before .before .before .decode .result) (c .told .result)
+planned-at : (c : tie.After-told Inv-loop μ-loop) → Planned (c .before .before .before .before .before .before .before .before .before .before .before .before .before .before .before .before .before .loop .state) (c .before .before .before .before .before .before .before .before .before .before .before .before .before .before .before .decode-at .result) (c .told .result)
 planned-at c =
-    let f = c .before .before .before .before .before .before .before .before .before .before .before .before in
+    let f = c .before .before .before .before .before .before .before .before .before .before .before .before .before in
     let n = c .before .before .before .before .before .before .before .before .before .noticed in
-    planned (f .before .before .before .before .before .loop .state) (right (f .before .before .before .before)) (f .before .before .decode .result) (f .record-frame .result) (f .record-frame .ensures) (n .result) (n .ensures) (c .told .result) (c .told .ensures)
+    planned (f .before .before .before .before .loop .state) (right (f .before .before .before)) (f .before .before .decode-at .result) (f .record-frame .result) (f .record-frame .ensures) (n .result) (n .ensures) (c .told .result) (c .told .ensures)
 
 -- ---- the places are there
 
+ladder-requires : tie.Need-ladder-requires Inv-loop μ-loop
+ladder-requires c κs = let s = c .before .before .before in in-range (s .args .s .table) (table-of (s .args .s) (came-in s))
+
 loop-holds : tie.Need-loop-holds Inv-loop μ-loop
 loop-holds c =
-    let s = c .before .before .before in
-    (at-first (s .args .r .now) (s .args .refusals .now) (s .args .values .now) (s .args .s) _ refl (record { shaped = of-type (s .args .s) _ (s .good .0); is-sound = s .pre .0 }), s .pre .1, s .pre .2)
+    let s = c .before .before .before .before in
+    (at-first (s .args .r .now) (s .args .refusals .now) (s .args .values .now) (s .args .s) _ refl (came-in s), s .pre .1, s .pre .2)
 
-mul-from : tie.Need-mul-from Inv-loop μ-loop
-mul-from c = search owned
-
-add-to : tie.Need-add-to Inv-loop μ-loop
-add-to c = search owned
-
-sub-decode : tie.Need-sub-decode Inv-loop μ-loop
-sub-decode c = search owned
-
-part-decode-start : tie.Need-part-decode-start Inv-loop μ-loop
-part-decode-start c = search owned
-
-part-decode-end : tie.Need-part-decode-end Inv-loop μ-loop
-part-decode-end c = search owned
-
-decode-requires : tie.Need-decode-requires Inv-loop μ-loop
-decode-requires c κs = search owned
+decode-at-requires : tie.Need-decode-at-requires Inv-loop μ-loop
+decode-at-requires c κs = search owned
 
 record-frame-requires : tie.Need-record-frame-requires Inv-loop μ-loop
 record-frame-requires c κs = search owned
@@ -80,7 +72,10 @@ element-copy-out-here : tie.Need-element-copy-out-here Inv-loop μ-loop
 element-copy-out-here c = framed-at (c .before) .at
 
 noticed-requires : tie.Need-noticed-requires Inv-loop μ-loop
-noticed-requires c κs = let f = framed-at (c .before .before) in (f .passes, f .has-at, f .aimed)
+noticed-requires c κs =
+    let f = framed-at (c .before .before .before) in
+    let lp = c .before .before .before .before .before .before .before in
+    (f .passes, f .has-at, f .aimed, lp .before .ladder .ensures ∙ ap ladder-of (sym (lp .loop .inv .0 .table)))
 
 cast-u : tie.Need-cast-u Inv-loop μ-loop
 cast-u c = search owned
@@ -116,10 +111,10 @@ mul-count : tie.Need-mul-count Inv-loop μ-loop
 mul-count c = search owned
 
 element-copy-out-count : tie.Need-element-copy-out-count Inv-loop μ-loop
-element-copy-out-count c = framed-at (c .before .before .before .before .before .before .before .before .before .before) .master
+element-copy-out-count c = framed-at (c .before .before .before .before .before .before .before .before .before .before .before) .master
 
 told-requires : tie.Need-told-requires Inv-loop μ-loop
-told-requires c κs = (framed-at (c .before .before .before .before .before .before .before .before .before .before .before) .number, noticed-at (c .before .before .before .before .before .before .before .before) .next)
+told-requires c κs = (framed-at (c .before .before .before .before .before .before .before .before .before .before .before .before) .number, noticed-at (c .before .before .before .before .before .before .before .before) .next)
 
 cast-first : tie.Need-cast-first Inv-loop μ-loop
 cast-first c = search owned
@@ -169,8 +164,8 @@ element-copy-out-c3 c = planned-at (c .before .before .before .before .before .b
 changed-requires-3 : tie.Need-changed-requires-3 Inv-loop μ-loop
 changed-requires-3 c κs = search owned
 
-mul-t40 : tie.Need-mul-t40 Inv-loop μ-loop
-mul-t40 c = search owned
+mul-t39 : tie.Need-mul-t39 Inv-loop μ-loop
+mul-t39 c = search owned
 
 element-set-from-state : tie.Need-element-set-from-state Inv-loop μ-loop
 element-set-from-state c = planned-at (c .before .before .before .before .before .before .before .before .before .before .before .before) .third
@@ -179,10 +174,10 @@ raised-requires : tie.Need-raised-requires Inv-loop μ-loop
 raised-requires c κs = search owned
 
 mul-state : tie.Need-mul-state Inv-loop μ-loop
-mul-state c = let h = framed-at (c .before .before .before .before .before .before .before .before .before .before .before .before .before .before .before .before .before .before .before .before .before .before .before .before .before) .master in omega arith
+mul-state c = let h = framed-at (c .before .before .before .before .before .before .before .before .before .before .before .before .before .before .before .before .before .before .before .before .before .before .before .before .before .before) .master in omega arith
 
 element-write-state : tie.Need-element-write-state Inv-loop μ-loop
-element-write-state c = framed-at (c .before .before .before .before .before .before .before .before .before .before .before .before .before .before .before .before .before .before .before .before .before .before .before .before .before) .master
+element-write-state c = framed-at (c .before .before .before .before .before .before .before .before .before .before .before .before .before .before .before .before .before .before .before .before .before .before .before .before .before .before) .master
 
 -- ---- the lent lists
 
@@ -191,20 +186,20 @@ room : (c : tie.In-loop Inv-loop μ-loop) → (c .before .loop .i + 1 ≤ length
 room c = let l = c .before .loop in places _ _ _ _ _ _ _ _ _ (l .inv .0) (let t = c .loop-test in omega arith) (l .inv .1) (l .inv .2)
 
 -- and i is below the number of records
-below : (c : tie.In-loop Inv-loop μ-loop) → c .before .loop .i < length (c .before .before .before .before .before .args .r .now) / 8
+below : (c : tie.In-loop Inv-loop μ-loop) → c .before .loop .i < length (c .before .before .before .before .before .before .args .r .now) / 8
 below c = let q = c .before .loop .inv .0 .many in let t = c .loop-test in omega arith
 
 slice-write-refusals : tie.Need-slice-write-refusals Inv-loop μ-loop
 slice-write-refusals c = let h = room (c .before .before .before .before .before .before .before .before .before .before .before .before .before .before .before .before .before .before .before .before .before .before .before .before .before .before .before .before .before) .0 in omega arith
 
 mul-values : tie.Need-mul-values Inv-loop μ-loop
-mul-values c = let h = below (c .before .before .before .before .before .before .before .before .before .before .before .before .before .before .before .before .before .before .before .before .before .before .before .before .before .before .before .before .before) in omega (arith, c .before .before .before .before .before .before .before .before .before .before .before .before .before .before .before .before .before .before .before .before .before .before .before .before .before .before .before .before .before .before .before .before .before .before .good .1)
+mul-values c = let h = below (c .before .before .before .before .before .before .before .before .before .before .before .before .before .before .before .before .before .before .before .before .before .before .before .before .before .before .before .before .before) in omega (arith, c .before .before .before .before .before .before .before .before .before .before .before .before .before .before .before .before .before .before .before .before .before .before .before .before .before .before .before .before .before .before .before .before .before .before .before .good .1)
 
 slice-write-values : tie.Need-slice-write-values Inv-loop μ-loop
 slice-write-values c = let h = room (c .before .before .before .before .before .before .before .before .before .before .before .before .before .before .before .before .before .before .before .before .before .before .before .before .before .before .before .before .before) .1 in omega arith
 
 add-i : tie.Need-add-i Inv-loop μ-loop
-add-i c = let h = below (c .before .before .before .before .before .before .before .before .before .before .before .before .before .before .before .before .before .before .before .before .before .before .before .before .before .before .before .before .before) in omega (arith, c .before .before .before .before .before .before .before .before .before .before .before .before .before .before .before .before .before .before .before .before .before .before .before .before .before .before .before .before .before .before .before .before .before .before .good .1)
+add-i c = let h = below (c .before .before .before .before .before .before .before .before .before .before .before .before .before .before .before .before .before .before .before .before .before .before .before .before .before .before .before .before .before) in omega (arith, c .before .before .before .before .before .before .before .before .before .before .before .before .before .before .before .before .before .before .before .before .before .before .before .before .before .before .before .before .before .before .before .before .before .before .before .good .1)
 
 loop-less : tie.Need-loop-less Inv-loop μ-loop
 loop-less c = let t = c .before .before .before .before .before .before .before .before .before .before .before .before .before .before .before .before .before .before .before .before .before .before .before .before .before .before .before .before .before .loop-test in omega arith
@@ -214,15 +209,13 @@ loop-less c = let t = c .before .before .before .before .before .before .before 
 loop-again : tie.Need-loop-again Inv-loop μ-loop
 loop-again c =
     let lp = c .before .before .before .before .before .before .before .before .before .before .before .before .before .before .before .before .before .before .before .before .before .before .before .before .before .before .before .before .before .before .loop in
-    let a = c .before .before .before .before .before .before .before .before .before .before .before .before .before .before .before .before .before .before .before .before .before .before .before .before .before .before .before .before .before .before .before .before .before .before .args in
-    let dc = c .before .before .before .before .before .before .before .before .before .before .before .before .before .before .before .before .before .before .before .before .before .before .before .before .before .before .before .decode in
-    let fr = c .before .before .before .before .before .before .before .before .before .before .before .before .before .before .before .before .before .before .before .before .before .before .before .before .before .record-frame in
+    let a = c .before .before .before .before .before .before .before .before .before .before .before .before .before .before .before .before .before .before .before .before .before .before .before .before .before .before .before .before .before .before .before .before .before .before .before .args in
+    let dc = c .before .before .before .before .before .before .before .before .before .before .before .before .before .before .before .before .before .before .before .before .before .before .before .before .before .before .before .before .decode-at in
+    let fr = c .before .before .before .before .before .before .before .before .before .before .before .before .before .before .before .before .before .before .before .before .before .before .before .before .before .before .record-frame in
     let p = c .before .before .before .before .before .before .before .before .before .before .before .before .before .told .result in
     let is = planned-at (c .before .before .before .before .before .before .before .before .before .before .before .before .before) .is in
-    let s = lp .state in
-    let e : (8 * (lp .i) + 8) - 8 * (lp .i) ≡ 8 = omega arith in
-    let d : dc .result ≡ decoded (take 8 (drop (8 * (lp .i)) (a .r .now))) = dc .ensures ∙ rw e in (
-      one-more (a .r .now) (a .refusals .now) (a .values .now) (a .s) _ _ _ s (lp .i) (lp .inv .0) (let t = c .before .before .before .before .before .before .before .before .before .before .before .before .before .before .before .before .before .before .before .before .before .before .before .before .before .before .before .before .before .loop-test in omega arith) (lp .inv .1) (lp .inv .2) (p .refusal) (p .value) _ d
+    let s = lp .state in (
+      one-more (a .r .now) (a .refusals .now) (a .values .now) (a .s) _ _ _ s (lp .i) (lp .inv .0) (let t = c .before .before .before .before .before .before .before .before .before .before .before .before .before .before .before .before .before .before .before .before .before .before .before .before .before .before .before .before .before .loop-test in omega arith) (lp .inv .1) (lp .inv .2) (p .refusal) (p .value) _ (dc .ensures)
           (stores s p (fr .result .master) _ (c .before .before .before .before .before .before .before .changed .ensures) (c .before .before .before .before .changed2 .ensures) (c .before .changed3 .ensures) (c .raised .ensures)
           ∙ stored s (right (c .before .before .before .before .before .before .before .before .before .before .before .before .before .before .before .before .before .before .before .before .before .before .before .before .before .before .before .before .before)) (dc .result) p is (fr .result .master) (ap (λ (x : Frame). x .master) (fr .ensures)) _ refl)
           (ap (λ (x : Plan). x .refusal) is ∙ plan-number s (dc .result))
@@ -240,7 +233,7 @@ same-length-2 c = search owned
 returns : tie.Need-returns Inv-loop μ-loop
 returns c =
     let lp = c .before .loop in
-    let a = c .before .before .before .before .before .args in
+    let a = c .before .before .before .before .before .before .args in
     let q = no-more (a .r .now) (a .refusals .now) (a .values .now) (a .s) _ _ _ (lp .state) (lp .i) (lp .inv .0) (let t = c .loop-test in omega arith) in
     (q .0, (q .1, q .2))
 
@@ -250,13 +243,9 @@ play-spec =
     (tie.spec
     Inv-loop
     μ-loop
+    ladder-requires
     loop-holds
-    mul-from
-    add-to
-    sub-decode
-    part-decode-start
-    part-decode-end
-    decode-requires
+    decode-at-requires
     record-frame-requires
     cast-place
     mul-here
@@ -291,7 +280,7 @@ play-spec =
     mul-c3-2
     element-copy-out-c3
     changed-requires-3
-    mul-t40
+    mul-t39
     element-set-from-state
     raised-requires
     mul-state

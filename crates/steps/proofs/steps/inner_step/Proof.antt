@@ -3,14 +3,15 @@
 use lib.ListN.{getD}
 use mathlib.Core.Bool.{cond}
 use mathlib.Core.Path.{_≡_, refl, ap, _∙_}
+use Rattle.chassis.proofs.Places.{in-range}
 use Rattle.network.specs.Acts.{acted-on, counted}
 use Rattle.network.proofs.OfType.{of-type}
 use Rattle.events.specs.declared.Decoded.the-variants.{Known}
 use Rattle.events.specs.Steps.{refusal-number, record-step}
 use Rattle.events.proofs.SoundStays.{Right}
-use Rattle.steps.specs.declared.Frame.{Frame}
-use Rattle.steps.specs.declared.Plan.{Plan}
-use Rattle.steps.proofs.Carried.{stored, plan-number, plan-value}
+use Rattle.sights.specs.declared.Frame.{Frame}
+use Rattle.judges.specs.declared.Plan.{Plan}
+use Rattle.steps.proofs.Carried.{table-of, stored, plan-number, plan-value}
 use Rattle.steps.proofs.Reading.{Framed, framed, Noticed, noticed, Planned, planned}
 use Rattle.steps.proofs.Single.{refused-step, accepted-step}
 use borrow.Author.Needs.{needs}
@@ -22,26 +23,29 @@ use Rattle.steps.proofs.steps.inner_step.Tie as tie
 right : (c : tie.Start) → Right (c .args .t1)
 right c = record { shaped = of-type (c .args .t1) _ (c .good .0); is-sound = c .pre }
 
-framed-at : (c : tie.After-event-frame) → Framed (c .before .before .args .t1) (c .event-frame .result)
-framed-at c = let s = c .before .before in framed (s .args .t1) (right s) (Known (s .args .x .event)) (c .event-frame .result) (c .event-frame .ensures)
+framed-at : (c : tie.After-event-frame) → Framed (c .before .before .before .args .t1) (c .event-frame .result)
+framed-at c = let s = c .before .before .before in framed (s .args .t1) (right s) (Known (s .args .x .event)) (c .event-frame .result) (c .event-frame .ensures)
 
 noticed-at : (c : tie.After-noticed) → Noticed (c .noticed .result)
 noticed-at c =
-    let s = c .before .before .before .before .before in
-    let f = c .before .before .before .event-frame in
+    let s = c .before .before .before .before .before .before .before in
+    let f = c .before .before .before .before .event-frame in
     noticed (s .args .t1) (right s) (Known (s .args .x .event)) (f .result) (f .ensures) (c .noticed .result) (c .noticed .ensures)
 
-planned-at : (c : tie.After-told) → Planned (c .before .before .before .before .before .before .before .before .before .before .before .before .before .before .before .args .t1) (Known (c .before .before .before .before .before .before .before .before .before .before .before .before .before .before .before .args .x .event)) (c .told .result)
+planned-at : (c : tie.After-told) → Planned (c .before .before .before .before .before .before .before .before .before .before .before .before .before .before .before .before .before .args .t1) (Known (c .before .before .before .before .before .before .before .before .before .before .before .before .before .before .before .before .before .args .x .event)) (c .told .result)
 planned-at c =
-    let s = c .before .before .before .before .before .before .before .before .before .before .before .before .before .before .before in
-    let f = c .before .before .before .before .before .before .before .before .before .before .before .before .before .event-frame in
+    let s = c .before .before .before .before .before .before .before .before .before .before .before .before .before .before .before .before .before in
+    let f = c .before .before .before .before .before .before .before .before .before .before .before .before .before .before .event-frame in
     let n = c .before .before .before .before .before .before .before .before .before .before .noticed in
     planned (s .args .t1) (right s) (Known (s .args .x .event)) (f .result) (f .ensures) (n .result) (n .ensures) (c .told .result) (c .told .ensures)
 
-number-is : (c : tie.After-told) → c .told .result .refusal ≡ refusal-number (record-step (c .before .before .before .before .before .before .before .before .before .before .before .before .before .before .before .args .t1) (Known (c .before .before .before .before .before .before .before .before .before .before .before .before .before .before .before .args .x .event)) .answer)
-number-is c = let a = c .before .before .before .before .before .before .before .before .before .before .before .before .before .before .before .args in ap (λ (x : Plan). x .refusal) (planned-at c .is) ∙ plan-number (a .t1) (Known (a .x .event))
+number-is : (c : tie.After-told) → c .told .result .refusal ≡ refusal-number (record-step (c .before .before .before .before .before .before .before .before .before .before .before .before .before .before .before .before .before .args .t1) (Known (c .before .before .before .before .before .before .before .before .before .before .before .before .before .before .before .before .before .args .x .event)) .answer)
+number-is c = let a = c .before .before .before .before .before .before .before .before .before .before .before .before .before .before .before .before .before .args in ap (λ (x : Plan). x .refusal) (planned-at c .is) ∙ plan-number (a .t1) (Known (a .x .event))
 
 -- ---- the places are there
+
+ladder-requires : tie.Need-ladder-requires
+ladder-requires c κs = let s = c .before in in-range (s .args .t1 .table) (table-of (s .args .t1) (right s))
 
 event-frame-requires : tie.Need-event-frame-requires
 event-frame-requires c κs = search needs
@@ -56,7 +60,7 @@ element-copy-out-here : tie.Need-element-copy-out-here
 element-copy-out-here c = framed-at (c .before) .at
 
 noticed-requires : tie.Need-noticed-requires
-noticed-requires c κs = let f = framed-at (c .before .before) in (f .passes, f .has-at, f .aimed)
+noticed-requires c κs = let f = framed-at (c .before .before .before) in (f .passes, f .has-at, f .aimed, c .before .before .before .before .ladder .ensures)
 
 cast-u : tie.Need-cast-u
 cast-u c = search needs
@@ -92,10 +96,10 @@ mul-count : tie.Need-mul-count
 mul-count c = search needs
 
 element-copy-out-count : tie.Need-element-copy-out-count
-element-copy-out-count c = framed-at (c .before .before .before .before .before .before .before .before .before .before .before) .master
+element-copy-out-count c = framed-at (c .before .before .before .before .before .before .before .before .before .before .before .before) .master
 
 told-requires : tie.Need-told-requires
-told-requires c κs = (framed-at (c .before .before .before .before .before .before .before .before .before .before .before .before) .number, noticed-at (c .before .before .before .before .before .before .before .before .before) .next)
+told-requires c κs = (framed-at (c .before .before .before .before .before .before .before .before .before .before .before .before .before) .number, noticed-at (c .before .before .before .before .before .before .before .before .before) .next)
 
 -- ---- refused, and accepted
 
@@ -104,7 +108,7 @@ refused-requires c κs = search needs
 
 returns : tie.Need-returns
 returns c =
-    let a = c .before .before .before .before .before .before .before .before .before .before .before .before .before .before .before .before .before .args in
+    let a = c .before .before .before .before .before .before .before .before .before .before .before .before .before .before .before .before .before .before .before .args in
     let p = c .before .before in
     c .refused .ensures ∙ refused-step (a .t1) (a .x .event) (p .told .result .refusal) (number-is p) (c .before .if1 .taken)
 
@@ -125,10 +129,10 @@ counted-requires c κs = search needs
 
 returns-2 : tie.Need-returns-2
 returns-2 c =
-    let st = c .before .before .before .before .before .before .before .before .before .before .before .before .before .before .before .before .before .before .before .before .before in
+    let st = c .before .before .before .before .before .before .before .before .before .before .before .before .before .before .before .before .before .before .before .before .before .before .before in
     let s = st .args .t1 in
     let e = st .args .x .event in
-    let f = c .before .before .before .before .before .before .before .before .before .before .before .before .before .before .before .before .before .before .before .event-frame in
+    let f = c .before .before .before .before .before .before .before .before .before .before .before .before .before .before .before .before .before .before .before .before .event-frame in
     let m = f .result .master in
     let t = c .before .before .before .before .before .before in
     let p = t .told .result in
@@ -143,6 +147,7 @@ pub inner-step-spec : {M : Type 1} → statement M
 inner-step-spec =
     tie.close
     (tie.spec
+    ladder-requires
     event-frame-requires
     cast-place
     mul-here

@@ -1,0 +1,2 @@
+-- Laws of feet.
+pub mod Standing

@@ -1,0 +1,2 @@
+-- Laws of what a judge says.
+pub mod Completing

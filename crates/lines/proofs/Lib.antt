@@ -1,0 +1,3 @@
+-- Laws of decimal numbers and of writing.
+pub mod Decimals
+pub mod Texts

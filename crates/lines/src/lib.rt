@@ -1,0 +1,2 @@
+// The log's lines, as bytes.
+pub mod lines;

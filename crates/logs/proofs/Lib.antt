@@ -1,0 +1,4 @@
+-- Laws of blocks played.
+pub mod Stepping
+pub mod Ticking
+pub mod Running

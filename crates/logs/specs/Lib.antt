@@ -1,0 +1,4 @@
+-- A whole input to its log, block by block.
+pub mod Logs
+pub mod Plays
+pub mod Runs

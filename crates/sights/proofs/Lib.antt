@@ -1,0 +1,2 @@
+-- Laws of where a record leads.
+pub mod Onward
