@@ -1,4 +1,4 @@
--- What a judge says from what it is told, kind by kind. That it is the plan of the state it was told of: proofs/Judged.antt.
+-- What a judge says from what it is told, kind by kind. That it is the plan of the state it was told of: steps/proofs/Told.antt.
 use Prim.Native.Nat.{ℕ, _+_}
 use mathlib.Core.Bool.{Bool, true, false, cond, not, _&&_, _||_}
 use lib.Dec.{leb, eqb}

@@ -2,3 +2,4 @@
 pub mod Stepping
 pub mod Ticking
 pub mod Running
+pub mod OneResult

@@ -1,5 +1,5 @@
 -- What is told of the channels that were read: N's own entries, N1's, those of N1's opposite and of N's opposite. That it is
--- what the state shows: proofs/Shown.antt.
+-- what the state shows: steps/proofs/Shown.antt.
 use Prim.Native.Nat.{ℕ, _<_}
 use mathlib.Core.Bool.{Bool, true, false, cond, not, _&&_}
 use mathlib.Core.List.{List}
