@@ -1,5 +1,5 @@
 // Blocks of 512 bytes.
-pub mod frames;
+pub mod checks;
 
 // What a block is found to be: refused with document 01's number, a table, single steps, or one tick. (The table itself is
 // read by `frames::table_of`.)

@@ -16,7 +16,7 @@ use Rattle.chassis.specs.declared.Table.{Table}
 use Rattle.chassis.specs.Numbers.{bus, same-bus}
 use Rattle.chassis.specs.Channels.{first-bus, second-bus}
 use Rattle.chassis.specs.Routes.{relabel, component, loop-free, all-joined}
-use Rattle.chassis.specs.Ladders.{InRange, places, label-at, ladder-of, share-label}
+use Rattle.chassis.specs.code.Ladders.{InRange, places, label-at, ladder-of, share-label}
 use Rattle.chassis.proofs.Counts.{counts}
 use Rattle.chassis.proofs.Passing.{ends}
 

@@ -12,7 +12,7 @@ use Rattle.chassis.specs.Numbers.{same-bus}
 use Rattle.chassis.specs.Channels.{first-bus, second-bus}
 use Rattle.chassis.specs.Ways.{Hop, hop, from, to, Way}
 use Rattle.chassis.specs.Routes.{component, way-over, channel-of, first-place}
-use Rattle.chassis.specs.Ladders.{InRange, ladder-of, share-label, Reachable}
+use Rattle.chassis.specs.code.Ladders.{InRange, ladder-of, share-label, Reachable}
 use Rattle.chassis.proofs.Buses.{bus-path, same-yes, same-no, yes-same}
 use Rattle.chassis.proofs.Components.{Joined, within, across, joined}
 use Rattle.chassis.proofs.Trees.{way-right}

@@ -17,7 +17,7 @@ use Rattle.chassis.specs.Numbers.{agent, bus}
 use Rattle.chassis.specs.Channels.{has-agent, has-chan, has-bus, is-master, goes-forth, bridge-of, home, out-bus}
 use Rattle.chassis.specs.Routes.{way}
 use Rattle.chassis.specs.Tables.{has-both-buses, bridges-of, homes-of, buses-are-there, table-passes}
-use Rattle.chassis.specs.Ladders.{InRange, Reachable}
+use Rattle.chassis.specs.code.Ladders.{InRange, Reachable}
 use Rattle.chassis.proofs.Buses.{bus-path}
 use Rattle.chassis.proofs.Trees.{joined-in}
 use Rattle.chassis.proofs.Passing.{passed}

@@ -5,4 +5,4 @@ pub mod Ways
 pub mod Routes
 pub mod Tables
 pub mod Answers
-pub mod Ladders
+pub mod code

@@ -4,7 +4,7 @@ ghost use mathlib.Core.Path.{_≡_};
 ghost use Prim.Native.Nat.{ℕ, _<_};
 ghost use lib.ListN.{getD};
 ghost use Rattle.chassis.specs.Routes.{relabel};
-ghost use Rattle.chassis.specs.Ladders.{InRange, places, label-at, ladder-of, share-label};
+ghost use Rattle.chassis.specs.code.Ladders.{InRange, places, label-at, ladder-of, share-label};
 use crate::Bus;
 use crate::Table;
 

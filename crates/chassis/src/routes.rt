@@ -8,7 +8,7 @@ ghost use Rattle.chassis.specs.Channels.{has-agent, has-chan};
 ghost use Rattle.chassis.specs.Ways.{hop, from};
 ghost use Rattle.chassis.specs.Routes.{way-over, way, channel-of, first-place, next-place, bridge-channels, among, on-the-way, opposes-the-way};
 ghost use Rattle.chassis.specs.Tables.{table-passes};
-ghost use Rattle.chassis.specs.Ladders.{InRange, ladder-of, Reachable};
+ghost use Rattle.chassis.specs.code.Ladders.{InRange, ladder-of, Reachable};
 ghost use Rattle.chassis.specs.Answers.{route-answer};
 use crate::Agent;
 use crate::Bus;

@@ -8,7 +8,7 @@ ghost use Rattle.base.specs.Lists.{all, any};
 ghost use Rattle.chassis.specs.Channels.{has-bus};
 ghost use Rattle.chassis.specs.Tables.{within, is-zero-bus, is-zero-bridge, has-both-buses, is-on-one-bus, counts-in-range, unused-are-zero, buses-are-there, a-bridge-on-one-bus, bridges-of, homes-of};
 ghost use Rattle.chassis.specs.Routes.{loop-free, all-joined, one-way};
-ghost use Rattle.chassis.specs.Ladders.{InRange, ladder-of};
+ghost use Rattle.chassis.specs.code.Ladders.{InRange, ladder-of};
 ghost use Rattle.chassis.specs.Answers.{table-answer};
 use crate::Bridge;
 use crate::Bus;

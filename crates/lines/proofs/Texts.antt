@@ -9,7 +9,7 @@ use lib.ListN.{length, getD, drop, set, length-append}
 use lib.Seq.{sets, length-sets, drop-cons}
 use Rattle.base.proofs.Writing.{sets-on}
 use Rattle.lines.specs.Lines.{Line, net, e, t, stop, end, decimal, numbers, line-of, text}
-use Rattle.lines.specs.Writing.{Written}
+use Rattle.lines.specs.code.Writing.{Written}
 use Rattle.lines.proofs.Decimals.{Fit, room, numbers-short}
 
 pub written-one : (o : List ℕ) (at x : ℕ) → Written o at (x ∷ []) (set o at x) (at + 1)

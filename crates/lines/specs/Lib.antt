@@ -1,3 +1,3 @@
 -- The log's lines as bytes, and a buffer written into.
 pub mod Lines
-pub mod Writing
+pub mod code

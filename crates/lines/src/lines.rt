@@ -3,7 +3,7 @@ ghost use mathlib.Core.List.{_∷_, []};
 ghost use Prim.Native.Nat.{_+_, _≤_};
 ghost use lib.ListN.{length};
 ghost use Rattle.lines.specs.Lines.{decimal, numbers, line-of, text, net, e, t, stop, end};
-ghost use Rattle.lines.specs.Writing.{Written};
+ghost use Rattle.lines.specs.code.Writing.{Written};
 
 // By recursion, as many calls as the number has digits: the digits before the last are those of n / 10.
 fn put_decimal(out: &mut [u8], at: usize, n: u32) -> usize

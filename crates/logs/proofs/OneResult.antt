@@ -5,10 +5,10 @@ use mathlib.Core.Bool.{Bool}
 use mathlib.Core.List.{List}
 use Rattle.base.proofs.Logic.{one-result}
 use Rattle.network.specs.declared.State.{State}
-use Rattle.lines.specs.Writing.{Written}
+use Rattle.lines.specs.code.Writing.{Written}
 use Rattle.lines.proofs.OneResult.{written-once}
-use Rattle.logs.specs.declared.plays.BlockRan.{BlockRan}
-use Rattle.logs.specs.declared.plays.BlockRun.{BlockRun}
+use Rattle.logs.specs.declared.runs.BlockRan.{BlockRan}
+use Rattle.logs.specs.declared.runs.BlockRun.{BlockRun}
 
 same-ran : {s u : State} {i j : ℕ} → s ≡ u → i ≡ j → _≡_ {A = BlockRan} (record { state = s; end = i }) (record { state = u; end = j })
 same-ran p q = rw (p, q)

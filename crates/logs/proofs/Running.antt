@@ -28,14 +28,14 @@ use Rattle.network.proofs.Good.{Arrays, empty-is-sound, empty-is-shaped}
 use Rattle.events.specs.Records.{records}
 use Rattle.events.specs.declared.Decoded.{Decoded}
 use Rattle.events.specs.Steps.{record-step}
-use Rattle.steps.specs.Plays.{played-state, played-refusals, played-values}
+use Rattle.play_events.specs.Plays.{played-state, played-refusals, played-values}
 use Rattle.events.proofs.SoundStays.{Right, record-step-right}
-use Rattle.cycles.proofs.TickPlayed.{tick-right}
+use Rattle.play_ticks.proofs.TickPlayed.{tick-right}
 use Rattle.blocks.specs.declared.BlockAnswer.{BlockAnswer}
 use Rattle.blocks.specs.declared.BlockAnswer.the-variants.{Refused, Network, Steps, Tick}
 use Rattle.blocks.specs.Blocks.{block-kind, block-place, record-count, record-bytes, block-records, bridge-records, table-of, stray-in-table, kind-place-count-are-right, content-grounds, block-grounds}
 use Rattle.blocks.specs.Answers.{accepted-as, block-answer}
-use Rattle.logs.specs.Runs.{run-lines, run-state, goes-on}
+use Rattle.logs.specs.code.Runs.{run-lines, run-state, goes-on}
 use Rattle.logs.specs.Logs.{steps, entries-left, block-played}
 use Rattle.blocks.proofs.Accepted.{Accepted, accepted-block, accepted-length, accepted-count, frame-is-right}
 use Rattle.logs.proofs.Stepping.{block-stepped}

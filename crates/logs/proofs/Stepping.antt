@@ -12,13 +12,13 @@ use Rattle.base.proofs.Writing.{length-parts}
 use Rattle.events.specs.declared.Decoded.{Decoded}
 use Rattle.events.specs.Records.{decoded, records}
 use Rattle.events.specs.Steps.{step, record-step, refusal-number, answer-value}
-use Rattle.steps.specs.Plays.{played-state, played-refusals, played-values}
+use Rattle.play_events.specs.Plays.{played-state, played-refusals, played-values}
 use Rattle.events.proofs.SoundStays.{Right, record-step-right, step-is}
 use Rattle.blocks.specs.Blocks.{byte, record-count, record-bytes, block-records}
 use Rattle.blocks.proofs.Accepted.{length-record-bytes}
 use Rattle.lines.specs.Lines.{e, text, texts}
 use Rattle.logs.specs.Logs.{steps, value-lines}
-use Rattle.logs.specs.Plays.{step-texts}
+use Rattle.logs.specs.code.Plays.{step-texts}
 
 module _ (block : ℕ) (r fs vs : List ℕ) (n i : ℕ) where
   pub texts-turn : i < n → step-texts block r fs vs (n - i) i ≡ text (e block i (byte r (8 * i)) (getD fs i 0) (getD vs i 0)) ++ step-texts block r fs vs (n - (i + 1)) (i + 1)

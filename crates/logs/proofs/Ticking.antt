@@ -15,12 +15,12 @@ use Rattle.events.proofs.SoundStays.{Right}
 use Rattle.ticks.specs.declared.TickAnswer.{TickAnswer}
 use Rattle.ticks.specs.declared.TickAnswer.the-variants.{Accepted, Refused, Conflict}
 use Rattle.ticks.specs.Ticks.{known, Ticked, tick, tick-number, tick-record, tick-other}
-use Rattle.cycles.specs.Turns.{is-accepted, judged-answer}
-use Rattle.cycles.proofs.TickPlayed.{accepted-so, answer-is, refused-stays, ends-known, known-length, answers-known}
+use Rattle.play_ticks.specs.Turns.{is-accepted, judged-answer}
+use Rattle.play_ticks.proofs.TickPlayed.{accepted-so, answer-is, refused-stays, ends-known, known-length, answers-known}
 use Rattle.blocks.specs.Blocks.{record-count, record-bytes, block-records}
 use Rattle.lines.specs.Lines.{Line, t, text, texts}
 use Rattle.logs.specs.Logs.{value-lines, value-lines-if, tick-lines, tick-of}
-use Rattle.logs.specs.Plays.{step-texts}
+use Rattle.logs.specs.code.Plays.{step-texts}
 use Rattle.blocks.proofs.Accepted.{length-record-bytes}
 use Rattle.logs.proofs.Stepping.{tick-texts}
 

@@ -1,4 +1,3 @@
 -- A whole input to its log, block by block.
 pub mod Logs
-pub mod Plays
-pub mod Runs
+pub mod code

@@ -1,2 +1,2 @@
 // Blocks played: what is printed, and the state that is reached.
-pub mod plays;
+pub mod runs;

@@ -11,14 +11,14 @@ use Rattle.chassis.specs.declared.Chan.{Chan}
 use Rattle.queue.specs.declared.Entry.{Entry}
 use Rattle.queue.specs.declared.Channel.{Channel}
 use Rattle.queue.specs.declared.Change.{Change}
-use Rattle.queue.specs.Changes.{changes}
-use Rattle.queue.specs.Methods.{changed-to}
+use Rattle.queue.specs.code.Changes.{changes}
+use Rattle.queue.specs.code.Methods.{changed-to}
 use Rattle.queue.specs.Packing.{packed}
 use Rattle.queue.proofs.Packed.{changed-packed}
 use Rattle.network.specs.declared.State.{State}
 use Rattle.network.specs.declared.Act.{Act}
 use Rattle.network.specs.Nets.{Net, pack, waiting}
-use Rattle.network.specs.Acts.{act, acted-on, counted, channel-at}
+use Rattle.network.specs.code.Acts.{act, acted-on, counted, channel-at}
 
 pub counted-beyond : (s : State) (m : Agent) (n : ℕ) → length (s .begins) ≤ m .0 → s ≡ counted s m n
 unfolding counted

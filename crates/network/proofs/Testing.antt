@@ -24,7 +24,7 @@ use Rattle.queue.specs.Packing.{live}
 use Rattle.network.specs.declared.State.{State}
 use Rattle.network.specs.Nets.{view}
 use Rattle.network.specs.Soundness.{counts-fit, within-limits, stands-right, fit, keeps-the-rules, unused-are-zero, sound}
-use Rattle.network.specs.Testing.{counting, sound-channel, sound-count, tested}
+use Rattle.network.specs.code.Testing.{counting, sound-channel, sound-count, tested}
 
 -- ---- one entry
 

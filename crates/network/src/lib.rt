@@ -1,7 +1,7 @@
 // The state of a network: table, channels, and the counts of accepted begins.
 ghost use mathlib.Core.Path.{_≡_};
 ghost use Rattle.chassis.specs.Tables.{zero-table};
-ghost use Rattle.network.specs.Acts.{acted-on, counted};
+ghost use Rattle.network.specs.code.Acts.{acted-on, counted};
 ghost use Rattle.network.specs.Nets.{pack, empty-net};
 ghost use Rattle.network.specs.Opening.{zero-state, opened};
 

@@ -1,5 +1,5 @@
 // Reads blocks from standard input and prints the log. All that matters is proved in the libraries.
-use inputs::play_input;
+use play_inputs::play_input;
 
 fn main() {
     let ok = play_input(0, 1, false);

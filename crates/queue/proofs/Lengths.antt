@@ -17,7 +17,7 @@ use Rattle.queue.specs.declared.Change.{Change}
 use Rattle.queue.specs.declared.Change.the-variants.{Nothing, Add, TakeOut, Mark}
 use Rattle.queue.specs.Entries.{P, R, C, is-kind, is-named, gone, marking}
 use Rattle.queue.specs.Queues.{filling}
-use Rattle.queue.specs.Changes.{changes}
+use Rattle.queue.specs.code.Changes.{changes}
 
 pub nothing-length : (l : List Entry) → length (changes Nothing l) ≤ length l
 unfolding changes

@@ -21,8 +21,8 @@ use Rattle.queue.specs.declared.Change.{Change}
 use Rattle.queue.specs.declared.Change.the-variants.{Nothing, Add, TakeOut, Mark}
 use Rattle.queue.specs.Entries.{is-named, marked, gone, marking, zero-entry, is-zero-entry}
 use Rattle.queue.specs.Packing.{live, packed, zero-channel}
-use Rattle.queue.specs.Changes.{changes}
-use Rattle.queue.specs.Methods.{place-from, place-of, added-to, removed-at, marked-at, at-place, changed-to}
+use Rattle.queue.specs.code.Changes.{changes}
+use Rattle.queue.specs.code.Methods.{place-from, place-of, added-to, removed-at, marked-at, at-place, changed-to}
 use Rattle.queue.proofs.Placed.{placed, not-placed}
 
 pub live-packed : (l : List Entry) → live (packed l) ≡ l

@@ -15,7 +15,7 @@ use Rattle.queue.specs.declared.Found.{Found}
 use Rattle.queue.specs.declared.Found.the-variants.{At, Nothing}
 use Rattle.queue.specs.Entries.{zero-entry, is-named}
 use Rattle.queue.specs.Packing.{live}
-use Rattle.queue.specs.Methods.{place-from, place-of}
+use Rattle.queue.specs.code.Methods.{place-from, place-of}
 
 -- place j, when the search begins at i, is the k-th of l
 pub record Placed (p : Entry → Bool) (l : List Entry) (i j : ℕ) : Type 0 where

@@ -15,7 +15,7 @@ use Rattle.queue.specs.declared.Look.{Look}
 use Rattle.queue.specs.Entries.{P, zero-entry, is-kind, is-named}
 use Rattle.queue.specs.Queues.{behind-P}
 use Rattle.queue.specs.Packing.{live}
-use Rattle.queue.specs.Changes.{look-of}
+use Rattle.queue.specs.code.Changes.{look-of}
 use Rattle.queue.proofs.Plainly.{behind-P-here, behind-P-past}
 
 -- before place i: g of what is left, from here on, is the whole

@@ -2,5 +2,4 @@
 pub mod Entries
 pub mod Queues
 pub mod Packing
-pub mod Changes
-pub mod Methods
+pub mod code

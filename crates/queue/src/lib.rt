@@ -7,8 +7,8 @@ ghost use Rattle.base.specs.Lists.{all};
 ghost use Rattle.queue.specs.Entries.{zero-entry, is-kind, is-named, marked, as-kind, is-zero-entry};
 ghost use Rattle.queue.specs.Queues.{filling, first-C};
 ghost use Rattle.queue.specs.Packing.{live, zero-channel};
-ghost use Rattle.queue.specs.Changes.{look-of};
-ghost use Rattle.queue.specs.Methods.{place-of, added-to, removed-at, marked-at, changed-to};
+ghost use Rattle.queue.specs.code.Changes.{look-of};
+ghost use Rattle.queue.specs.code.Methods.{place-of, added-to, removed-at, marked-at, changed-to};
 
 // A transaction is named by its master and a number.
 pub struct Transaction {

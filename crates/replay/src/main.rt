@@ -1,5 +1,5 @@
 // Plays stored streams and compares each log with the stored one. Its arguments name the streams: NAME.in and NAME.out.
-use inputs::play_input;
+use play_inputs::play_input;
 ghost use Prim.Native.Nat.{_≤_};
 
 // Writes argument i.

@@ -6,7 +6,7 @@ use native.Mathlib.Omega.{arith}
 use borrow.Author.Needs.{needs}
 use lib.ListN.{length, getD, length-set}
 use Rattle.base.proofs.Made.{fill-on, fill-behind, replicate-at}
-use Rattle.chassis.specs.Ladders.{places, label-at}
+use Rattle.chassis.specs.code.Ladders.{places, label-at}
 use Rattle.chassis.proofs.Levels.{few-places, is-ladder}
 use Rattle.chassis.proofs.labels.ladder.Statement.{statement}
 use Rattle.chassis.proofs.labels.ladder.Tie as tie

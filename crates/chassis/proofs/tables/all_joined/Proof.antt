@@ -8,7 +8,7 @@ use Rattle.base.specs.Lists.{all, from-to}
 use Rattle.base.proofs.Cases.{by-call-not, by-call-so}
 use Rattle.base.proofs.Loops.{all-from-stop, all-from-on, all-from-over}
 use Rattle.chassis.specs.Numbers.{bus}
-use Rattle.chassis.specs.Ladders.{share-label}
+use Rattle.chassis.specs.code.Ladders.{share-label}
 use Rattle.chassis.proofs.Counts.{counts}
 use Rattle.chassis.proofs.Levels.{joined-by-labels}
 use Rattle.chassis.proofs.tables.all_joined.Statement.{statement}

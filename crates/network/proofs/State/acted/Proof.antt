@@ -6,7 +6,7 @@ use Rattle.base.proofs.Walks.{owned}
 use Prim.Native.Nat.{_≤_}
 use lib.ListN.{length}
 use native.Mathlib.Omega.{arith}
-use Rattle.network.specs.Acts.{acted-on}
+use Rattle.network.specs.code.Acts.{acted-on}
 use borrow.Author.Needs.{needs}
 use Rattle.network.proofs.State.acted.Statement.{statement}
 use Rattle.network.proofs.State.acted.Tie as tie

@@ -6,7 +6,7 @@ use borrow.Author.Needs.{needs}
 use Rattle.base.specs.Lists.{all-from}
 use Rattle.base.proofs.Loops.{Left, cells-left, stops, goes-on, ends}
 use Rattle.base.proofs.Cases.{cases}
-use Rattle.network.specs.Testing.{sound-count}
+use Rattle.network.specs.code.Testing.{sound-count}
 use Rattle.network.proofs.soundness.are_sound_counts.Statement.{statement}
 use Rattle.network.proofs.soundness.are_sound_counts.Tie as tie
 

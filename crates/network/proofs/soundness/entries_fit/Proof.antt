@@ -13,7 +13,7 @@ use Rattle.base.proofs.Cases.{cases}
 use Rattle.queue.specs.Entries.{zero-entry}
 use Rattle.queue.specs.Packing.{live}
 use Rattle.network.specs.Soundness.{fit}
-use Rattle.network.specs.Testing.{counting}
+use Rattle.network.specs.code.Testing.{counting}
 use Rattle.network.proofs.soundness.entries_fit.Statement.{statement}
 use Rattle.network.proofs.soundness.entries_fit.Tie as tie
 

@@ -13,7 +13,7 @@ use Rattle.chassis.specs.Tables.{table-passes}
 use Rattle.chassis.proofs.Places.{in-range}
 use Rattle.chassis.proofs.Asking.{answered-passes, answered-refused}
 use Rattle.network.specs.Shapes.{no-channel}
-use Rattle.network.specs.Testing.{sound-channel}
+use Rattle.network.specs.code.Testing.{sound-channel}
 use Rattle.network.proofs.Testing.{bad-table, bad-channel, by-counts}
 use Rattle.network.proofs.soundness.is_sound.Statement.{statement}
 use Rattle.network.proofs.soundness.is_sound.Tie as tie

@@ -3,7 +3,7 @@
 use mathlib.Core.Path.{refl}
 use borrow.Author.Needs.{needs}
 use borrow.Author.Tests.{lt-ltb, le-ltb}
-use Rattle.queue.specs.Methods.{added-to}
+use Rattle.queue.specs.code.Methods.{added-to}
 use Rattle.queue.proofs.Channel.added.Statement.{statement}
 use Rattle.queue.proofs.Channel.added.Tie as tie
 

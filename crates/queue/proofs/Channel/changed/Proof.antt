@@ -3,7 +3,7 @@
 use borrow.Author.Needs.{needs}
 use mathlib.Core.Path.{sym, _∙_}
 use Rattle.base.proofs.Walks.{owned}
-use Rattle.queue.specs.Methods.{changed-to}
+use Rattle.queue.specs.code.Methods.{changed-to}
 use Rattle.queue.proofs.Placed.{place-bound}
 use Rattle.queue.proofs.Channel.changed.Statement.{statement}
 use Rattle.queue.proofs.Channel.changed.Tie as tie

@@ -6,7 +6,7 @@ use mathlib.Core.Path.{refl, sym, _∙_}
 use native.Mathlib.Numerals.{add-one}
 use Rattle.base.proofs.Walks.{owned}
 use Rattle.queue.specs.Entries.{is-named}
-use Rattle.queue.specs.Methods.{place-from, place-of}
+use Rattle.queue.specs.code.Methods.{place-from, place-of}
 use Rattle.queue.proofs.Turns.{Ahead, here, further, over}
 use Rattle.queue.proofs.Channel.found.Statement.{statement}
 use Rattle.queue.proofs.Channel.found.Tie as tie

@@ -9,7 +9,7 @@ use lib.ListN.{getD}
 use Rattle.base.proofs.Walks.{owned}
 use Rattle.queue.specs.Entries.{zero-entry}
 use Rattle.queue.specs.Packing.{live}
-use Rattle.queue.specs.Changes.{look-of}
+use Rattle.queue.specs.code.Changes.{look-of}
 use Rattle.queue.proofs.Turns.{Ahead, here, further, over, seen, look-here, look-past, look-none}
 use Rattle.queue.proofs.Channel.looked.Statement.{statement}
 use Rattle.queue.proofs.Channel.looked.Tie as tie

@@ -2,7 +2,7 @@
 -- The stored entry is what `Entry::marked` gives.
 use borrow.Author.Needs.{needs}
 use Rattle.queue.specs.Entries.{marked}
-use Rattle.queue.specs.Methods.{marked-at}
+use Rattle.queue.specs.code.Methods.{marked-at}
 use Rattle.queue.proofs.Channel.marked_at.Statement.{statement}
 use Rattle.queue.proofs.Channel.marked_at.Tie as tie
 

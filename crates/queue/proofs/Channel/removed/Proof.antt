@@ -8,7 +8,7 @@ use lib.ListN.{length, length-set}
 use Rattle.base.proofs.Walks.{owned}
 use Rattle.base.proofs.Padded.{close-gap, gap-on, gap-end}
 use Rattle.queue.specs.Entries.{zero-entry}
-use Rattle.queue.specs.Methods.{removed-at}
+use Rattle.queue.specs.code.Methods.{removed-at}
 use Rattle.queue.proofs.Channel.removed.Statement.{statement}
 use Rattle.queue.proofs.Channel.removed.Tie as tie
 

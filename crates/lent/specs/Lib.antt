@@ -1,4 +1,0 @@
--- A table whose bridge records and agents' buses are lists, as document 01 says it; and the table as the code makes it, record by record.
-pub mod Lists
-pub mod Made
-pub mod Trials

@@ -1,0 +1,87 @@
+// What a judge has to be told of a record, in two steps: what the record's own channel shows, with the places to look at next;
+// and, of the channels there, the plan.
+use crate::Notice;
+use chassis::Chan;
+use chassis::NextPlace;
+use chassis::Table;
+use chassis::routes::next_by;
+use events::Event;
+use judge_events::Plan;
+use judge_events::judges::judge;
+use queue::Channel;
+use queue::Look;
+use read_events::Frame;
+use read_events::frames::kind_named;
+use read_events::frames::moves_on;
+use read_events::frames::transaction_named;
+use read_events::sights::ahead_or;
+use read_events::sights::answer_or;
+use read_events::sights::back_or;
+use read_events::sights::sight_of;
+ghost use mathlib.Core.Path.{_≡_};
+ghost use mathlib.Core.Bool.{true};
+ghost use Prim.Native.Nat.{_<_};
+ghost use Rattle.chassis.specs.Channels.{has-agent, has-chan};
+ghost use Rattle.chassis.specs.Tables.{table-passes};
+ghost use Rattle.chassis.specs.code.Ladders.{ladder-of};
+ghost use Rattle.queue.specs.Packing.{live};
+ghost use Rattle.read_events.specs.Frames.{channel-number};
+ghost use Rattle.read_events.specs.Sights.{small};
+ghost use Rattle.read_events.specs.Sights.{next-told};
+ghost use Rattle.play_events.specs.Notices.{look-told, Aimed, notice, told-plan};
+
+// The next place, where the kind asks for it and the entry is there.
+fn next_of(t: Table, ways: &[u8; 256], e: Event, n: Chan, l: Look) -> NextPlace
+    requires { ⌜ (table-passes t ≡ true) × (has-chan t n ≡ true) × Aimed t l × (now ways ≡ ladder-of t) ⌝ }
+    ensures { λ r. ⌜ r ≡ next-told t e n l ⌝ }
+{
+    if !moves_on(e) {
+        return NextPlace::Target;
+    }
+    if !l.found {
+        return NextPlace::Target;
+    }
+    let x = l.entry;
+    next_by(t, ways, n, x.target)
+}
+
+// The table's ladder is lent: whoever holds the state makes it once, since no step changes the table.
+pub fn noticed(t: Table, ways: &[u8; 256], f: Frame, here: Channel) -> Notice
+    requires { ⌜ (table-passes t ≡ true) × (has-chan t (f .at) ≡ true) × Aimed t (look-told f (live here)) × (now ways ≡ ladder-of t) ⌝ }
+    ensures { λ r. ⌜ r ≡ notice t f (live here) ⌝ }
+{
+    let e = f.event;
+    let at = f.at;
+    let look = here.looked(kind_named(e), transaction_named(e));
+    let next = next_of(t, ways, e, at, look);
+    let ahead = ahead_or(at, next);
+    let answer = answer_or(t, at, next);
+    let back = back_or(t, at);
+    Notice {
+        look,
+        next,
+        ahead,
+        answer,
+        back,
+    }
+}
+
+pub fn told(
+    t: Table,
+    f: Frame,
+    count: u16,
+    n: Notice,
+    here: Channel,
+    ahead: Channel,
+    answer: Channel,
+    back: Channel,
+) -> Plan
+    requires { ⌜ (channel-number (f .event) < 255) × small (n .next) ⌝ }
+    ensures { λ r. ⌜ r ≡ told-plan t f count n (live here) (live ahead) (live answer) (live back) ⌝ }
+{
+    let e = f.event;
+    let next = n.next;
+    let l = n.look;
+    let g = sight_of(t, e, next, here, ahead, answer, back);
+    judge(t, f, count, l, next, g)
+}

@@ -1,0 +1,175 @@
+-- The tick on a sound state: refused, it answers what its judging found and everything stands as it stood; accepted, it is its turns carried out.
+use Prim.Native.Nat.{ℕ, zero, suc, _/_, _%_, _<_, _≤_}
+use mathlib.Core.Path.{_≡_, refl, sym, ap, subst, _∙_}
+use mathlib.Core.Bool.{Bool, true, false, not, _||_}
+use mathlib.Core.List.{List, [], _∷_, _++_, map}
+use mathlib.Core.Option.{none, some}
+use native.Mathlib.Omega.{arith}
+use borrow.Author.Tests.{ne-eqb, eq-eqb, lt-ltb, le-ltb}
+use lib.Dec.{eqb, ltb}
+use lib.ListN.{length, getD, take, drop, replicate, length-map}
+use lib.Seq.{getD-take, take-at}
+use Rattle.base.specs.Grounds.{refusal}
+use Rattle.base.proofs.Logic.{split, there, true-false}
+use Rattle.base.proofs.Orders.{All}
+use Rattle.network.specs.declared.State.{State}
+use Rattle.network.specs.Nets.{Net, view, pack}
+use Rattle.network.specs.Soundness.{sound}
+use Rattle.events.specs.declared.Event.{Event}
+use Rattle.events.specs.declared.Decoded.{Decoded}
+use Rattle.events.specs.declared.Decoded.the-variants.{Known}
+use Rattle.events.specs.Effects.{value}
+use Rattle.events.specs.Records.{records}
+use Rattle.events.proofs.SoundStays.{Right}
+use Rattle.read_events.specs.Frames.{frame}
+use Rattle.judge_events.specs.Plans.{record-plan}
+use Rattle.play_events.proofs.Carried.{table-of}
+use Rattle.play_events.proofs.Playing.{how-many}
+use Rattle.play_events.proofs.Shown.{points}
+use Rattle.read_events.proofs.Onward.{one-of-62, one-of-32}
+use Rattle.play_events.proofs.There.{plan-there}
+use Rattle.ticks.specs.declared.TickAnswer.{TickAnswer}
+use Rattle.ticks.specs.declared.TickAnswer.the-variants.{Accepted, Refused, Conflict}
+use Rattle.ticks.specs.Ticks.{known, end-of, first-refused, first-pair, Ticked, held, ticked, tick-grounds, judged, tick}
+use Rattle.ticks.proofs.Searches.{known-all, refuses-none}
+use Rattle.ticks.proofs.Judged.{none-refused}
+use Rattle.ticks.proofs.TickAcceptsExactly.{Orderly, Ends, tick-accepts-exactly, tick-ends, no-tick-ground}
+use Rattle.play_ticks.specs.declared.Turn.{Turn}
+use Rattle.play_ticks.specs.Turns.{no-turn, turn, turns-made, in-places, is-accepted, judged-answer, Placed, all-turned, turn-values}
+use Rattle.play_ticks.proofs.Judging.{all-made}
+use Rattle.play_ticks.proofs.CarriedTogether.{carried-together, values-together}
+
+pub accepted-so : (a : TickAnswer) → is-accepted a ≡ true → a ≡ Accepted
+accepted-so Accepted h = refl
+accepted-so (Refused n i) h = absurd (true-false (sym h))
+accepted-so (Conflict i j) h = absurd (true-false (sym h))
+
+-- ---- 16, 18, 17
+
+module _ (s : State) (b out : List ℕ) where
+  -- a tick refused at once
+  pub refused-at-once : (n : ℕ) → refusal (tick-grounds s b out) ≡ some n → tick s b out ≡ held s out (Refused n 0)
+  unfolding tick
+  refused-at-once n h = rw (h, tick)
+
+  pub unsound : sound s ≡ false → refusal (tick-grounds s b out) ≡ some 16
+  unfolding tick-grounds
+  unsound h = rw h
+
+  module _ (h : sound s ≡ true) where
+    pub not-eights : (length b % 8 ≡ 0 → ⊥) → refusal (tick-grounds s b out) ≡ some 18
+    unfolding tick-grounds
+    not-eights k = rw (h, ne-eqb (length b % 8) 0 k)
+
+    pub too-many : length b % 8 ≡ 0 → 504 < length b → refusal (tick-grounds s b out) ≡ some 18
+    unfolding tick-grounds
+    too-many k l = rw (h, eq-eqb (length b % 8) 0 k, lt-ltb 504 (length b) l)
+
+    pub too-short : length b % 8 ≡ 0 → length b ≤ 504 → length out < length b / 8 → refusal (tick-grounds s b out) ≡ some 17
+    unfolding tick-grounds
+    too-short k l m = rw (h, eq-eqb (length b % 8) 0 k, le-ltb 504 (length b) l, lt-ltb (length out) (length b / 8) m)
+
+-- ---- a turn points to places that are there
+
+module _ (s : State) (right : Right s) where
+  placed-turn : (d : Decoded) → Placed (turn (view s) d)
+  unfolding turn view
+  placed-turn d =
+      let ok = table-of s right in
+      let q = plan-there (view s) ok d in
+      let p = record-plan (view s) d in
+      record {
+        first = one-of-62 (s .table) ok (p .first .at) (q .first);
+        second = one-of-62 (s .table) ok (p .second .at) (q .second);
+        third = one-of-62 (s .table) ok (p .third .at) (q .third);
+        master = one-of-32 (s .table) ok (frame (s .table) d .master) (points s ok d (frame (s .table) d) refl .has-master);
+      }
+
+  placed-at : (ds : List Decoded) (i : ℕ) → i < length ds → Placed (getD (map (turn (view s)) ds) i no-turn)
+  placed-at [] i h = absurd (omega arith)
+  placed-at (d ∷ ds) zero h = placed-turn d
+  placed-at (d ∷ ds) (suc i) h = placed-at ds i (omega arith)
+
+  pub placed-all : (b : List ℕ) (all : List Turn) → take (length b / 8) all ≡ map (turn (view s)) (records b) → (i : ℕ) → i < length b / 8 → Placed (getD all i no-turn)
+  placed-all b all e i h =
+      subst Placed (getD-take (length b / 8) all i no-turn h) (subst (λ (l : List Turn). Placed (getD l i no-turn)) (sym e) (placed-at (records b) i (omega (arith, how-many b))))
+
+-- ---- past 16, 18 and 17
+
+module _ (s : State) (right : Right s) (b out : List ℕ) (whole : length b % 8 ≡ 0) (few : length b ≤ 504) (places : length b / 8 ≤ length out) where
+  abbrev ds : List Decoded
+  ds = records b
+
+  is-judged : tick s b out ≡ judged s out ds
+  unfolding tick
+  is-judged = rw (no-tick-ground s b out (right .is-sound) whole few places, tick)
+
+  pub answer-is : tick s b out .answer ≡ judged-answer (view s) ds
+  unfolding judged judged-answer
+  answer-is =
+      ap (λ (t : Ticked). t .answer) is-judged
+      ∙ there (first-refused (view s) 0 ds)
+      (λ n. there (first-pair (view s) 0 (known ds)) (λ m. rw (n, judged, m)) (λ a m. rw (n, judged, m)))
+      (λ a n. rw (n, judged))
+
+  pub refused-stays : is-accepted (judged-answer (view s) ds) ≡ false → tick s b out ≡ held s out (judged-answer (view s) ds)
+  unfolding judged judged-answer
+  refused-stays h =
+      is-judged
+      ∙ there (first-refused (view s) 0 ds)
+      (λ n. there (first-pair (view s) 0 (known ds)) (λ m. absurd (true-false (rw (n, m) at h))) (λ a m. rw (n, judged, m)))
+      (λ a n. rw (n, judged))
+
+  module _ (ok : judged-answer (view s) ds ≡ Accepted) where
+    orderly : Orderly (view s) b
+    orderly = tick-accepts-exactly s (right .shaped) (right .is-sound) b out whole few places .0 (answer-is ∙ ok)
+
+    ends : Ends s b out (orderly .events)
+    ends = tick-ends s (right .shaped) (right .is-sound) b out whole few places orderly
+
+    events-known : orderly .events ≡ known ds
+    events-known = sym (ap known (orderly .known) ∙ known-all (orderly .events))
+
+    -- whatever the answer list, if it is long enough
+    pub ends-known : tick s b out .state ≡ pack (end-of (view s) (known ds))
+    ends-known = ends .state ∙ ap (λ (es : List Event). pack (end-of (view s) es)) events-known
+
+    pub known-length : length (known ds) ≡ length b / 8
+    known-length = ap length (sym events-known) ∙ sym (sym (how-many b) ∙ ap length (orderly .known) ∙ length-map (orderly .events) Known)
+
+    pub answers-known : tick s b out .answers ≡ map (value (view s)) (known ds) ++ drop (length b / 8) out
+    answers-known =
+        let n : length (orderly .events) ≡ length b / 8 = ap length events-known ∙ known-length in
+        ends .answers ∙ ap (λ (k : ℕ). map (value (view s)) (orderly .events) ++ drop k out) n ∙ ap (λ (es : List Event). map (value (view s)) es ++ drop (length b / 8) out) events-known
+
+    -- each record left its turn
+    pub each-made : take (length b / 8) (in-places (turns-made (view s) ds)) ≡ map (turn (view s)) ds
+    each-made =
+        let alone = ap (first-refused (view s) 0) (orderly .known) ∙ refuses-none (view s) 0 (orderly .events) (orderly .agreeing .alone) in
+        let m = all-made (view s) ds (none-refused (view s) 0 ds alone) in
+        let n : length (map (turn (view s)) ds) ≡ length b / 8 = length-map ds (turn (view s)) ∙ how-many b in
+        ap (λ (ts : List Turn). take (length b / 8) (in-places ts)) m
+        ∙ take-at (map (turn (view s)) ds) (drop (length (map (turn (view s)) ds)) (replicate 63 no-turn)) (length b / 8) n
+
+    module _ (all : List Turn) (turns : take (length b / 8) all ≡ map (turn (view s)) ds) where
+      turns-are : take (length b / 8) all ≡ map (turn (view s)) (map Known (orderly .events))
+      turns-are = turns ∙ ap (map (turn (view s))) (orderly .known)
+
+      pub state-is : all-turned s (take (length b / 8) all) ≡ tick s b out .state
+      state-is = ap (all-turned s) turns-are ∙ carried-together s right (orderly .events) (orderly .agreeing) ∙ sym (ends .state)
+
+      pub answers-are : turn-values (take (length b / 8) all) ++ drop (length b / 8) out ≡ tick s b out .answers
+      answers-are =
+          let es = orderly .events in
+          let n : length b / 8 ≡ length es = sym (ap length events-known ∙ known-length) in
+          ap (λ (l : List Turn). turn-values l ++ drop (length b / 8) out) turns-are
+          ∙ ap (λ (l : List ℕ). l ++ drop (length b / 8) out) (values-together (view s) es (orderly .agreeing .alone))
+          ∙ ap (λ (k : ℕ). map (value (view s)) es ++ drop k out) n
+          ∙ sym (ends .answers)
+
+  -- accepted or not, what it leaves is sound
+  pub tick-right : Right (tick s b out .state)
+  tick-right =
+      split (is-accepted (judged-answer (view s) ds))
+      (λ h. ends (accepted-so (judged-answer (view s) ds) h) .right)
+      (λ h. subst Right (sym (ap (λ (t : Ticked). t .state) (refused-stays h))) right)

@@ -1,0 +1,111 @@
+-- `first_pair` is the lowest first record of a conflicting pair and its lowest partner.
+-- The idea: what is left to compare, compared from here, finds what the whole search finds (`Seeking`, `Comparing`).
+use mathlib.Core.Path.{sym, _∙_}
+use lib.ListN.{length}
+use native.Mathlib.Omega.{arith}
+use Prim.Native.Nat.{_≤_, _-_}
+use Rattle.base.proofs.Walks.{owned}
+use Rattle.play_ticks.proofs.Pairing.{Seeking, Comparing, seek-first, compare-first, compare-on, pair-found, seek-on, seek-done}
+use Rattle.play_ticks.proofs.pairs.first_pair.Statement.{statement}
+use Rattle.play_ticks.proofs.pairs.first_pair.Tie as tie
+
+abbrev Inv-loop2 : tie.InvT-loop2
+Inv-loop2 n turns i e j₀ j = Comparing (turns .all) n i e j × (n ≤ 63)
+
+abbrev μ-loop2 : tie.MeasureT-loop2
+μ-loop2 n turns i e j₀ j = n - j
+
+abbrev Inv-loop : tie.InvT-loop
+Inv-loop n turns i₀ i = Seeking (turns .all) n i × (n ≤ 63)
+
+abbrev μ-loop : tie.MeasureT-loop
+μ-loop n turns i₀ i = n - i
+
+loop-holds : tie.Need-loop-holds Inv-loop2 μ-loop2 Inv-loop μ-loop
+loop-holds c = (seek-first (c .args .t1 .all) (c .args .n) (search owned), c .pre)
+
+mul-a : tie.Need-mul-a Inv-loop2 μ-loop2 Inv-loop μ-loop
+mul-a c = let l = c .before .loop .inv .1 in let t = c .loop-test in omega arith
+
+element-copy-out-a : tie.Need-element-copy-out-a Inv-loop2 μ-loop2 Inv-loop μ-loop
+element-copy-out-a c = let l = c .before .loop .inv .1 in let t = c .loop-test in omega arith
+
+add-j : tie.Need-add-j Inv-loop2 μ-loop2 Inv-loop μ-loop
+add-j c = let l = c .before .before .before .loop .inv .1 in let t = c .before .before .loop-test in omega arith
+
+loop2-holds : tie.Need-loop2-holds Inv-loop2 μ-loop2 Inv-loop μ-loop
+loop2-holds c =
+    let l = c .before .before .before .loop in
+    (compare-first (c .before .before .before .before .args .t1 .all) (c .before .before .before .before .args .n) (l .i) _ (l .inv .0) (let t = c .before .before .loop-test in omega arith), l .inv .1)
+
+mul-b : tie.Need-mul-b Inv-loop2 μ-loop2 Inv-loop μ-loop
+mul-b c = let l = c .before .loop2 .inv .1 in let t = c .loop2-test in omega arith
+
+element-copy-out-b : tie.Need-element-copy-out-b Inv-loop2 μ-loop2 Inv-loop μ-loop
+element-copy-out-b c = let l = c .before .loop2 .inv .1 in let t = c .loop2-test in omega arith
+
+clashes-requires : tie.Need-clashes-requires Inv-loop2 μ-loop2 Inv-loop μ-loop
+clashes-requires c κs = search owned
+
+cast-t21 : tie.Need-cast-t21 Inv-loop2 μ-loop2 Inv-loop μ-loop
+cast-t21 c = let l = c .before .before .before .before .before .loop2 .inv .1 in let t = c .before .before .before .before .before .before .before .before .loop-test in omega arith
+
+cast-t22 : tie.Need-cast-t22 Inv-loop2 μ-loop2 Inv-loop μ-loop
+cast-t22 c = let l = c .before .before .before .before .before .loop2 .inv .1 in let t = c .before .before .before .before .loop2-test in omega arith
+
+returns : tie.Need-returns Inv-loop2 μ-loop2 Inv-loop μ-loop
+returns c =
+    let l = c .before .before .before .before .before .loop2 in
+    pair-found (c .before .before .before .before .before .before .before .before .before .before .args .t1 .all) (c .before .before .before .before .before .before .before .before .before .before .args .n) _ _ (l .j) (l .inv .0) _ (let t = c .before .before .before .before .loop2-test in omega arith) (sym (c .before .clashes .ensures) ∙ c .if1 .taken)
+
+add-j-2 : tie.Need-add-j-2 Inv-loop2 μ-loop2 Inv-loop μ-loop
+add-j-2 c = let l = c .before .before .before .before .before .loop2 .inv .1 in let t = c .before .before .before .before .loop2-test in omega arith
+
+loop2-less : tie.Need-loop2-less Inv-loop2 μ-loop2 Inv-loop μ-loop
+loop2-less c = let t = c .before .before .before .before .loop2-test in omega arith
+
+loop2-again : tie.Need-loop2-again Inv-loop2 μ-loop2 Inv-loop μ-loop
+loop2-again c =
+    let l = c .before .before .before .before .before .loop2 in
+    (compare-on (c .before .before .before .before .before .before .before .before .before .before .args .t1 .all) (c .before .before .before .before .before .before .before .before .before .before .args .n) _ _ (l .j) (l .inv .0) _ (let t = c .before .before .before .before .loop2-test in omega arith) (sym (c .before .clashes .ensures) ∙ c .if1 .left), l .inv .1)
+
+add-i : tie.Need-add-i Inv-loop2 μ-loop2 Inv-loop μ-loop
+add-i c = let l = c .before .loop2 .inv .1 in let t = c .before .before .before .before .loop-test in omega arith
+
+loop-less : tie.Need-loop-less Inv-loop2 μ-loop2 Inv-loop μ-loop
+loop-less c = let t = c .before .before .before .before .loop-test in omega arith
+
+loop-again : tie.Need-loop-again Inv-loop2 μ-loop2 Inv-loop μ-loop
+loop-again c =
+    let l = c .before .loop2 in
+    (seek-on (c .before .before .before .before .before .before .args .t1 .all) (c .before .before .before .before .before .before .args .n) _ _ (l .j) (l .inv .0) (let t = c .loop2-test in omega arith), l .inv .1)
+
+returns-2 : tie.Need-returns-2 Inv-loop2 μ-loop2 Inv-loop μ-loop
+returns-2 c = let l = c .before .loop in seek-done (c .before .before .args .t1 .all) (c .before .before .args .n) (l .i) (l .inv .0) (let t = c .loop-test in omega arith)
+
+pub first-pair-spec : {M : Type 1} → statement M
+first-pair-spec =
+    tie.close
+    (tie.spec
+    Inv-loop2
+    μ-loop2
+    Inv-loop
+    μ-loop
+    loop-holds
+    mul-a
+    element-copy-out-a
+    add-j
+    loop2-holds
+    mul-b
+    element-copy-out-b
+    clashes-requires
+    cast-t21
+    cast-t22
+    returns
+    add-j-2
+    loop2-less
+    loop2-again
+    add-i
+    loop-less
+    loop-again
+    returns-2)
