@@ -1,7 +1,7 @@
 // One cycle played. Every record is judged once, in the state that the tick starts in, and leaves a turn: its plan and its foot. Feet
 // are compared pair by pair; then the plans are carried out, and nothing is judged again.
+pub mod at_once;
 pub mod pairs;
-pub mod ticks;
 pub mod turning;
 
 use chassis::Agent;

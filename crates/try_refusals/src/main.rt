@@ -17,7 +17,7 @@ use network::soundness::is_sound;
 use network::zero;
 use play_events::steps::inner_step;
 use play_events::steps::step;
-use play_ticks::ticks::tick;
+use play_ticks::at_once::tick;
 
 // One bus with two agents.
 fn table() -> Table {

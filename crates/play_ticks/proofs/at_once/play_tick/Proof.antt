@@ -16,8 +16,8 @@ use Rattle.ticks.specs.declared.TickAnswer.the-variants.{Accepted}
 use Rattle.ticks.specs.Ticks.{Ticked}
 use Rattle.play_ticks.specs.Turns.{turn, is-accepted, judged-answer}
 use Rattle.play_ticks.proofs.TickPlayed.{accepted-so, placed-all, answer-is, refused-stays, each-made, state-is, answers-are}
-use Rattle.play_ticks.proofs.ticks.play_tick.Statement.{statement}
-use Rattle.play_ticks.proofs.ticks.play_tick.Tie as tie
+use Rattle.play_ticks.proofs.at_once.play_tick.Statement.{statement}
+use Rattle.play_ticks.proofs.at_once.play_tick.Tie as tie
 
 right : (c : tie.Start) → Right (c .args .s)
 right c = record { shaped = of-type (c .args .s) _ (c .good .0); is-sound = c .pre .0 }

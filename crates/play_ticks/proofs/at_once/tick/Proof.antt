@@ -16,8 +16,8 @@ use Rattle.ticks.specs.declared.TickOutcome.{TickOutcome}
 use Rattle.ticks.specs.declared.TickAnswer.the-variants.{Refused}
 use Rattle.ticks.specs.Ticks.{Ticked, tick-grounds, tick}
 use Rattle.play_ticks.proofs.TickPlayed.{refused-at-once, unsound, not-eights, too-many, too-short}
-use Rattle.play_ticks.proofs.ticks.tick.Statement.{statement}
-use Rattle.play_ticks.proofs.ticks.tick.Tie as tie
+use Rattle.play_ticks.proofs.at_once.tick.Statement.{statement}
+use Rattle.play_ticks.proofs.at_once.tick.Tie as tie
 
 -- a refusal at once, as it is handed back
 handed-back : (s : State) (b out : List ℕ) (n : ℕ) → refusal (tick-grounds s b out) ≡ some n → (q : TickOutcome) → q ≡ record { answer = Refused n 0; state = s }
