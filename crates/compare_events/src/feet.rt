@@ -14,7 +14,7 @@ ghost use mathlib.Core.Bool.{true, false};
 ghost use Prim.Native.Nat.{_<_};
 ghost use Rattle.chassis.specs.Channels.{has-chan};
 ghost use Rattle.chassis.specs.Tables.{table-passes};
-ghost use Rattle.read_events.specs.Frames.{channel-named};
+ghost use Rattle.events.specs.Accounts.{account};
 ghost use Rattle.read_events.specs.Sights.{small};
 ghost use Rattle.ticks.specs.Conflicts.{clash};
 ghost use Rattle.compare_events.specs.Feet.{no-foot, begin-foot, bus-foot, take-foot, drop-foot, foot, footing-of, one-bus, one-beginner, one-name, dropped-tried, dropped-taken, dropped-both};
@@ -94,7 +94,7 @@ fn drop_foot(kind: u8, n: Chan, x: Transaction) -> Foot
 }
 
 pub fn foot_of(t: Table, e: Event, next: NextPlace) -> Foot
-    requires { ⌜ (table-passes t ≡ true) × (has-chan t (channel-named e) ≡ true) × small next ⌝ }
+    requires { ⌜ (table-passes t ≡ true) × (has-chan t (account e .channel) ≡ true) × small next ⌝ }
     ensures { λ r. ⌜ r ≡ foot t e next ⌝ }
 {
     match e {

@@ -15,6 +15,7 @@ use Rattle.network.specs.Nets.{Net, begun}
 use Rattle.network.specs.Edits.{Edit, add, change, raise, edits}
 use Rattle.events.specs.declared.Event.{Event}
 use Rattle.events.specs.declared.Event.the-variants.{BeginPosted, BeginRead, BeginWrite, Commit, Post, Latch, Complete, DropRequest, DropCompletion}
+use Rattle.events.specs.Accounts.{account}
 use Rattle.events.specs.Tests.{entry-at, ahead}
 
 -- the number that a begin gives
@@ -71,15 +72,7 @@ effects s (DropCompletion N t) = leaves C N t ∷ []
 
 -- the new number for kinds 1 to 3, otherwise 0
 unfoldable pub value : Net → Event → ℕ
-value s (BeginPosted m a) = next-number s m
-value s (BeginRead m a) = next-number s m
-value s (BeginWrite m a) = next-number s m
-value s (Commit N t) = 0
-value s (Post N t) = 0
-value s (Latch N t) = 0
-value s (Complete N t) = 0
-value s (DropRequest N t) = 0
-value s (DropCompletion N t) = 0
+value s e = cond (account e .begins) (next-number s (account e .name .master)) 0
 
 -- the next state
 unfoldable pub after : Net → Event → Net

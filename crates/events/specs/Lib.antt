@@ -1,4 +1,5 @@
 -- The nine kinds: record bytes, grounds in their order, effects and values, the single step, the states reached.
+pub mod Accounts
 pub mod Records
 pub mod Tests
 pub mod Grounds

@@ -1,4 +1,5 @@
 // One step: an event is one of nine kinds, each with its own fields.
+pub mod accounts;
 pub mod records;
 
 use chassis::Agent;
@@ -43,6 +44,22 @@ pub enum Event {
         channel: Chan,
         transaction: Transaction,
     },
+}
+
+// What the nine kinds have in common.
+pub struct Account {
+    // The channel that it names, or begins in.
+    pub channel: Chan,
+    // The master and the number that it names; a begin names no number: 0.
+    pub name: Transaction,
+    // A begin's target; other kinds do not use it: agent 0.
+    pub target: Agent,
+    // The kind of entry that it names, or adds.
+    pub kind: u8,
+    // Kinds 1 to 3.
+    pub begins: bool,
+    // Kinds 5 to 7, which ask for the next place.
+    pub moves: bool,
 }
 
 // Held in a step record with its block and place.

@@ -17,7 +17,7 @@ use read_events::Sight;
 ghost use mathlib.Core.Path.{_≡_};
 ghost use mathlib.Core.Bool.{not, _&&_};
 ghost use Prim.Native.Nat.{_<_};
-ghost use Rattle.read_events.specs.Frames.{channel-number};
+ghost use Rattle.events.specs.Accounts.{account};
 ghost use Rattle.judge_events.specs.Plans.{no-act, refused-plan, does, at-channel, entering, answer-entering};
 ghost use Rattle.read_events.specs.Sights.{small};
 ghost use Rattle.judge_events.specs.Verdicts.{begin-verdict, commit-verdict, post-verdict, latch-verdict, latch-verdict-on, complete-verdict, complete-verdict-on, answer-verdict, drop-request-verdict, drop-completion-verdict, verdict, frame-verdict};
@@ -293,7 +293,7 @@ fn judge_drop_completion(n: Chan, l: Look, oldest: bool) -> Plan
 
 // The kind's own judge.
 fn judge_event(t: Table, e: Event, count: u16, l: Look, next: NextPlace, g: Sight) -> Plan
-    requires { ⌜ (channel-number e < 255) × small next ⌝ }
+    requires { ⌜ (account e .channel .0 < 255) × small next ⌝ }
     ensures { λ r. ⌜ r ≡ verdict t e count l next g ⌝ }
 {
     match e {
@@ -336,7 +336,7 @@ fn judge_event(t: Table, e: Event, count: u16, l: Look, next: NextPlace, g: Sigh
 
 // A refused frame stays refused.
 pub fn judge(t: Table, f: Frame, count: u16, l: Look, next: NextPlace, g: Sight) -> Plan
-    requires { ⌜ (channel-number (f .event) < 255) × small next ⌝ }
+    requires { ⌜ (account (f .event) .channel .0 < 255) × small next ⌝ }
     ensures { λ r. ⌜ r ≡ frame-verdict t f count l next g ⌝ }
 {
     let n = f.refusal;

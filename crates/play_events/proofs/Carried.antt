@@ -33,10 +33,11 @@ use Rattle.events.specs.declared.Decoded.the-variants.{Known, Unfit}
 use Rattle.judge_events.specs.declared.Plan.{Plan}
 use Rattle.events.specs.Grounds.{grounds, Accepted}
 use Rattle.events.specs.Effects.{after, value}
-use Rattle.read_events.specs.Frames.{master-number, frame, is-begin}
+use Rattle.read_events.specs.Frames.{frame}
 use Rattle.judge_events.specs.Plans.{refused-plan, begin-plan, accepted-plan, plan, record-plan, carried-out}
 use Rattle.events.specs.Steps.{inner-step, record-step, refusal-number, answer-value}
 use Rattle.events.specs.declared.Event.the-variants.{BeginPosted, BeginRead, BeginWrite, Commit, Post, Latch, Complete, DropRequest, DropCompletion}
+use Rattle.events.specs.Accounts.{account}
 use Rattle.events.proofs.SoundStays.{Right}
 use Rattle.play_events.proofs.Shown.{shows}
 use Rattle.play_events.proofs.CarriedOut.{framed-master, refused-idle, accepted-done}
@@ -99,7 +100,7 @@ plan-value s Unfit = refl
 plan-value s (Known e) = there (refusal (grounds (view s) e)) (λ h. rw h (accepted-value (view s) e)) (λ k h. rw h)
 
 -- only a begin raises
-pub accepted-raises : (n : Net) (e : Event) → accepted-plan n e .raises ≡ is-begin e
+pub accepted-raises : (n : Net) (e : Event) → accepted-plan n e .raises ≡ account e .begins
 unfolding accepted-plan
 accepted-raises n (BeginPosted m a) = refl
 accepted-raises n (BeginRead m a) = refl
@@ -113,7 +114,7 @@ accepted-raises n (DropCompletion N t) = refl
 
 -- a begin's value is the count that its master then has
 module _ (n : Net) (g : Good n) where
-  raised-begin : (e : Event) (k : ℕ) (write : Bool) (m a : Agent) → Accepted n e → accepted-plan n e ≡ begin-plan n k write m a → agent (master-number e) ≡ m
+  raised-begin : (e : Event) (k : ℕ) (write : Bool) (m a : Agent) → Accepted n e → accepted-plan n e ≡ begin-plan n k write m a → account e .name .master ≡ m
       → accepted-plan n e .value ≡ begun n ((frame (n .table) (Known e)) .master) + 1
   raised-begin e k write m a ok plans is = ap (λ (p : Plan). p .value) plans ∙ sym (ap (λ (x : Agent). begun n x + 1) (framed-master n e ok ∙ is))
 

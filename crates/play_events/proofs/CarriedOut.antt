@@ -49,7 +49,8 @@ use Rattle.judge_events.specs.declared.Plan.{Plan}
 use Rattle.events.specs.Tests.{entry-at, ahead, answered, unanswered}
 use Rattle.events.specs.Effects.{leaves, is-marked, enters, answer-taken, answer-given, begins, new-entry, effects, after}
 use Rattle.events.specs.Grounds.{begin-grounds, named-grounds, grounds, Accepted}
-use Rattle.read_events.specs.Frames.{master-number, channel-named, begin-frame, named-frame, frame}
+use Rattle.events.specs.Accounts.{account}
+use Rattle.read_events.specs.Frames.{begin-frame, named-frame, frame}
 use Rattle.judge_events.specs.Plans.{at-channel, no-act, does, refused-plan, begin-plan, entering, answer-leaving, answer-entering, accepted-plan, carried-out}
 use Rattle.events.proofs.Kept.{rules-stay}
 
@@ -327,7 +328,7 @@ module _ (s u : Net) (small : Small u) where
     unfolding accepted-plan effects grounds
     done-drop-completion ok end = done-drop (DropCompletion N t) C end (there C _ (clear (grounds s (DropCompletion N t)) ok)) refl refl
 
-  done : (e : Event) → Accepted s e → Small (then e) → Done e (agent (master-number e)) (accepted-plan s e)
+  done : (e : Event) → Accepted s e → Small (then e) → Done e (account e .name .master) (accepted-plan s e)
   unfolding accepted-plan effects
   done (BeginPosted m a) ok end = done-begin (BeginPosted m a) P true m a end refl refl
   done (BeginRead m a) ok end = done-begin (BeginRead m a) R false m a end refl refl
@@ -343,7 +344,7 @@ module _ (s : Net) where
   -- ---- the frame of an accepted event is its own
 
   abbrev own-frame : Event → Frame
-  own-frame e = record { refusal = 0; event = e; at = channel-named e; master = agent (master-number e) }
+  own-frame e = record { refusal = 0; event = e; at = account e .channel; master = account e .name .master }
 
   framed-begin : (e : Event) (k : ℕ) (m a : Agent) → Clear (begin-grounds s k m a) → begin-frame (s .table) e m a ≡ record { refusal = 0; event = e; at = master-channel m; master = m }
   unfolding begin-grounds
@@ -369,7 +370,7 @@ module _ (s : Net) where
   framed-own (DropRequest N t) ok = framed-named (DropRequest N t) R N t _ (clear (grounds s (DropRequest N t)) ok)
   framed-own (DropCompletion N t) ok = framed-named (DropCompletion N t) C N t _ (clear (grounds s (DropCompletion N t)) ok)
 
-  pub framed-master : (e : Event) → Accepted s e → (frame (s .table) (Known e)) .master ≡ agent (master-number e)
+  pub framed-master : (e : Event) → Accepted s e → (frame (s .table) (Known e)) .master ≡ account e .name .master
   framed-master e ok = ap (λ (f : Frame). f .master) (framed-own e ok)
 
 -- ---- on a state that keeps the rules
@@ -401,7 +402,7 @@ pub done-elsewhere : (s u : Net) → Small u → (e : Event) → Accepted s e �
 unfolding carried-out pack
 done-elsewhere s u small e ok end =
     let p = accepted-plan s e in
-    let m = agent (master-number e) in
+    let m = account e .name .master in
     let r = done s u small e ok end in
     ap (λ (x : Agent). carried-out (pack u) x p) (framed-master s e ok)
     ∙ ap (λ (x : State). counted x m (cond (p .raises) (getD (u .begins) (m .0) 0 + 1) (getD (u .begins) (m .0) 0))) (acts-packed u p (r .fitting))

@@ -16,11 +16,12 @@ use Rattle.network.specs.declared.State.{State}
 use Rattle.network.specs.Nets.{view}
 use Rattle.network.specs.code.Acts.{channel-at}
 use Rattle.events.specs.declared.Decoded.{Decoded}
+use Rattle.events.specs.Accounts.{account}
 use Rattle.events.proofs.SoundStays.{Right}
 use Rattle.read_events.specs.declared.Frame.{Frame}
 use Rattle.play_events.specs.declared.Notice.{Notice}
 use Rattle.judge_events.specs.declared.Plan.{Plan}
-use Rattle.read_events.specs.Frames.{frame, channel-number, channel-named, kind-named, transaction-named, ahead-or, answer-or, back-or}
+use Rattle.read_events.specs.Frames.{frame, ahead-or, answer-or, back-or}
 use Rattle.judge_events.specs.Plans.{record-plan}
 use Rattle.read_events.specs.Sights.{small}
 use Rattle.read_events.specs.Sights.{next-told}
@@ -34,9 +35,9 @@ use Rattle.play_events.proofs.Carried.{table-of, target-is}
 pub record Framed (s : State) (f : Frame) : Type 0 where
   pub passes : table-passes (s .table) ≡ true
   pub has-at : has-chan (s .table) (f .at) ≡ true
-  pub named : has-chan (s .table) (channel-named (f .event)) ≡ true
+  pub named : has-chan (s .table) (account (f .event) .channel) ≡ true
   pub at : f .at .0 < 62
-  pub number : channel-number (f .event) < 255
+  pub number : account (f .event) .channel .0 < 255
   pub master : f .master .0 < 32
   pub aimed : Aimed (s .table) (look-told f (live (channel-at s (f .at))))
 
@@ -67,7 +68,7 @@ module _ (s : State) (r : Right s) (d : Decoded) (f : Frame) (isf : f ≡ frame 
   pub framed : Framed s f
   framed =
       let h = one-of-62 T ok (f .at) (pointed .has-at) in
-      let e : f .at .0 ≡ channel-number (f .event) = ap (λ (x : Chan). x .0) (pointed .at) in
+      let e : f .at .0 ≡ account (f .event) .channel .0 = ap (λ (x : Chan). x .0) (pointed .at) in
       record {
         passes = ok;
         has-at = pointed .has-at;
@@ -75,7 +76,7 @@ module _ (s : State) (r : Right s) (d : Decoded) (f : Frame) (isf : f ≡ frame 
         at = h;
         number = omega arith;
         master = one-of-32 T ok (f .master) (pointed .has-master);
-        aimed = target-is s r (f .at) (kind-named (f .event)) (transaction-named (f .event)) (look-told f (live (channel-at s (f .at)))) refl;
+        aimed = target-is s r (f .at) (account (f .event) .kind) (account (f .event) .name) (look-told f (live (channel-at s (f .at)))) refl;
       }
 
   abbrev here : Look

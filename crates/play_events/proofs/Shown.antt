@@ -36,7 +36,8 @@ use Rattle.read_events.specs.declared.Frame.{Frame}
 use Rattle.read_events.specs.declared.Sight.{Sight}
 use Rattle.judge_events.specs.declared.Plan.{Plan}
 use Rattle.events.specs.Tests.{full-ahead, answer-full, is-channel-with}
-use Rattle.read_events.specs.Frames.{frame, refused-frame, begin-frame, named-frame, is-begin, master-number, target-number, channel-named, kind-named, transaction-named, moves-on, look-at, next-of, look-back, sight, ahead-or, answer-or, back-or}
+use Rattle.events.specs.Accounts.{account}
+use Rattle.read_events.specs.Frames.{frame, refused-frame, begin-frame, named-frame, look-at, next-of, look-back, sight, ahead-or, answer-or, back-or}
 use Rattle.judge_events.specs.Plans.{record-plan}
 use Rattle.judge_events.specs.Verdicts.{frame-verdict}
 use Rattle.read_events.specs.Sights.{next-told, if-channel, look-if, full-in, full-back, sight-told}
@@ -71,7 +72,7 @@ module _ (n : Net) where
   -- all four lists, at an event's own channel
   abbrev told-sight : Event → NextPlace → Sight
   told-sight e next =
-      let N = channel-named e in
+      let N = account e .channel in
       sight-told (n .table) next (waiting n N) (waiting n (ahead-or N next)) (waiting n (answer-or (n .table) N next)) (waiting n (back-or (n .table) N)) e
 
   sight-path : {f g w x : Bool} {a b : Look} {o : Bool} → f ≡ g → w ≡ x → a ≡ b → _≡_ {A = Sight} (record { full = f; waits = w; answer = a; oldest = o }) (record { full = g; waits = x; answer = b; oldest = o })
@@ -91,9 +92,9 @@ module _ (n : Net) where
   sight-shown (DropRequest N t) = refl
   sight-shown (DropCompletion N t) = refl
 
-  pub next-shown : (e : Event) → next-told (n .table) e (channel-named e) (look-at n e) ≡ next-of n e
+  pub next-shown : (e : Event) → next-told (n .table) e (account e .channel) (look-at n e) ≡ next-of n e
   unfolding look-at look-of next-of
-  next-shown e = split (moves-on e) (λ h. rw h) (λ h. rw h)
+  next-shown e = split (account e .moves) (λ h. rw h) (λ h. rw h)
 
 -- ---- a frame points to its event's own channel and master, and to such as are there
 
@@ -102,8 +103,8 @@ by-test Q true f g = f refl
 by-test Q false f g = g refl
 
 pub record Pointed (T : Table) (f : Frame) : Type 0 where
-  pub at : f .at ≡ channel-named (f .event)
-  pub master : f .master ≡ agent (master-number (f .event))
+  pub at : f .at ≡ account (f .event) .channel
+  pub master : f .master ≡ account (f .event) .name .master
   pub has-at : has-chan T (f .at) ≡ true
   pub has-master : has-agent T (f .master) ≡ true
 
@@ -119,7 +120,7 @@ module _ (T : Table) (ok : table-passes T ≡ true) where
     has-master = lt-ltb 0 (T .agents) some-agent;
   }
 
-  module _ (e : Event) (m a : Agent) (at : channel-named e ≡ master-channel m) (master : agent (master-number e) ≡ m) where
+  module _ (e : Event) (m a : Agent) (at : account e .channel ≡ master-channel m) (master : account e .name .master ≡ m) where
     pointed-begin : Pointed T (begin-frame T e m a)
     pointed-begin =
         by-test (Pointed T) (has-agent T m)
@@ -134,7 +135,7 @@ module _ (T : Table) (ok : table-passes T ≡ true) where
         (λ i. pointed-nowhere 2))
         (λ h. pointed-nowhere 2)
 
-  module _ (e : Event) (N : Chan) (t : Transaction) (at : channel-named e ≡ N) (master : agent (master-number e) ≡ t .master) where
+  module _ (e : Event) (N : Chan) (t : Transaction) (at : account e .channel ≡ N) (master : account e .name .master ≡ t .master) where
     pointed-named : Pointed T (named-frame T e N t)
     pointed-named =
         by-test (Pointed T) (has-chan T N)
@@ -171,15 +172,15 @@ module _ (s : State) (ok : table-passes (s .table) ≡ true) (d : Decoded) (f : 
   points = subst (Pointed T) (sym isf) (pointed T ok d)
 
   -- what is looked at
-  module _ (l : Look) (isl : l ≡ look-of (kind-named e) (transaction-named e) (live (channel-at s (f .at)))) where
+  module _ (l : Look) (isl : l ≡ look-of (account e .kind) (account e .name) (live (channel-at s (f .at)))) where
     look-right : l ≡ look-at n e
     unfolding look-at
-    look-right = isl ∙ ap (look-of (kind-named e) (transaction-named e)) (shows s (f .at) ∙ ap (waiting n) (points .at))
+    look-right = isl ∙ ap (look-of (account e .kind) (account e .name)) (shows s (f .at) ∙ ap (waiting n) (points .at))
 
     module _ (next : NextPlace) (isn : next ≡ next-told T e (f .at) l) where
       pub next-right : next ≡ next-of n e
       unfolding view
-      next-right = isn ∙ ap (λ (N : Chan). next-told T e N l) (points .at) ∙ ap (next-told T e (channel-named e)) look-right ∙ next-shown n e
+      next-right = isn ∙ ap (λ (N : Chan). next-told T e N l) (points .at) ∙ ap (next-told T e (account e .channel)) look-right ∙ next-shown n e
 
       module _ (g : Sight) (isg : g ≡ sight-told T next (live (channel-at s (f .at))) (live (channel-at s (ahead-or (f .at) next))) (live (channel-at s (answer-or T (f .at) next))) (live (channel-at s (back-or T (f .at)))) e) where
         sight-right : g ≡ sight n e

@@ -34,7 +34,8 @@ use Rattle.judge_events.specs.declared.Plan.{Plan}
 use Rattle.events.specs.Tests.{ahead, entry-at, is-target, is-channel-with, full-ahead, answer-full, behind-a-P}
 use Rattle.events.specs.Grounds.{begin-grounds, named-grounds, grounds}
 use Rattle.events.specs.Effects.{new-entry}
-use Rattle.read_events.specs.Frames.{frame, begin-frame, named-frame, refused-frame, master-number, channel-named, kind-named, transaction-named, moves-on, look-at, next-of, look-back, sight}
+use Rattle.events.specs.Accounts.{account}
+use Rattle.read_events.specs.Frames.{frame, begin-frame, named-frame, refused-frame, look-at, next-of, look-back, sight}
 use Rattle.judge_events.specs.Plans.{at-channel, no-act, does, entering, refused-plan, begin-plan, accepted-plan, plan-by, plan, record-plan}
 use Rattle.read_events.proofs.Onward.{by-place}
 use Rattle.judge_events.specs.Verdicts.{begin-verdict, post-verdict, latch-verdict-to, latch-verdict, complete-verdict-to, complete-verdict, verdict, frame-verdict}
@@ -76,7 +77,7 @@ module _ (T : Table) (N : Chan) (l : Look) (next : NextPlace) (g : Sight) where
 module _ (s : Net) where
   -- what is told of an event
   abbrev pub told : Event → Plan
-  told e = verdict (s .table) e (begun s (agent (master-number e))) (look-at s e) (next-of s e) (sight s e)
+  told e = verdict (s .table) e (begun s (account e .name .master)) (look-at s e) (next-of s e) (sight s e)
 
   -- ground 2, which the frame has asked
   abbrev pub Named : Chan → Transaction → Type 0
@@ -93,7 +94,7 @@ module _ (s : Net) where
     told-commit = simp (decided, flipped, h .0, h .1)
 
     -- where the entry is there the next place is asked
-    next-there : (e : Event) → moves-on e ≡ true → stands (kind-named e) (transaction-named e) (waiting s (channel-named e)) ≡ true → next-of s e ≡ ahead s (kind-named e) (channel-named e) (transaction-named e)
+    next-there : (e : Event) → account e .moves ≡ true → stands (account e .kind) (account e .name) (waiting s (account e .channel)) ≡ true → next-of s e ≡ ahead s (account e .kind) (account e .channel) (account e .name)
     unfolding next-of
     next-there e m f = rw (m, f)
 

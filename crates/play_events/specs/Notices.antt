@@ -10,15 +10,16 @@ use Rattle.chassis.specs.Channels.{has-agent}
 use Rattle.queue.specs.declared.Entry.{Entry}
 use Rattle.queue.specs.declared.Look.{Look}
 use Rattle.queue.specs.code.Changes.{look-of}
+use Rattle.events.specs.Accounts.{account}
 use Rattle.read_events.specs.declared.Frame.{Frame}
 use Rattle.play_events.specs.declared.Notice.{Notice}
 use Rattle.judge_events.specs.declared.Plan.{Plan}
-use Rattle.read_events.specs.Frames.{kind-named, transaction-named, ahead-or, answer-or, back-or}
+use Rattle.read_events.specs.Frames.{ahead-or, answer-or, back-or}
 use Rattle.read_events.specs.Sights.{next-told, sight-told}
 use Rattle.judge_events.specs.Verdicts.{frame-verdict}
 
 abbrev pub look-told : Frame → List Entry → Look
-look-told f here = look-of (kind-named (f .event)) (transaction-named (f .event)) here
+look-told f here = look-of (account (f .event) .kind) (account (f .event) .name) here
 
 -- an entry that is found is bound for an agent of the table
 abbrev pub Aimed : Table → Look → Type 0

@@ -11,9 +11,6 @@ use judge_events::judges::judge;
 use queue::Channel;
 use queue::Look;
 use read_events::Frame;
-use read_events::frames::kind_named;
-use read_events::frames::moves_on;
-use read_events::frames::transaction_named;
 use read_events::sights::ahead_or;
 use read_events::sights::answer_or;
 use read_events::sights::back_or;
@@ -25,7 +22,7 @@ ghost use Rattle.chassis.specs.Channels.{has-agent, has-chan};
 ghost use Rattle.chassis.specs.Tables.{table-passes};
 ghost use Rattle.chassis.specs.code.Ladders.{ladder-of};
 ghost use Rattle.queue.specs.Packing.{live};
-ghost use Rattle.read_events.specs.Frames.{channel-number};
+ghost use Rattle.events.specs.Accounts.{account};
 ghost use Rattle.read_events.specs.Sights.{small};
 ghost use Rattle.read_events.specs.Sights.{next-told};
 ghost use Rattle.play_events.specs.Notices.{look-told, Aimed, notice, told-plan};
@@ -35,7 +32,8 @@ fn next_of(t: Table, ways: &[u8; 256], e: Event, n: Chan, l: Look) -> NextPlace
     requires { ⌜ (table-passes t ≡ true) × (has-chan t n ≡ true) × Aimed t l × (now ways ≡ ladder-of t) ⌝ }
     ensures { λ r. ⌜ r ≡ next-told t e n l ⌝ }
 {
-    if !moves_on(e) {
+    let a = e.account();
+    if !a.moves {
         return NextPlace::Target;
     }
     if !l.found {
@@ -52,7 +50,8 @@ pub fn noticed(t: Table, ways: &[u8; 256], f: Frame, here: Channel) -> Notice
 {
     let e = f.event;
     let at = f.at;
-    let look = here.looked(kind_named(e), transaction_named(e));
+    let a = e.account();
+    let look = here.looked(a.kind, a.name);
     let next = next_of(t, ways, e, at, look);
     let ahead = ahead_or(at, next);
     let answer = answer_or(t, at, next);
@@ -76,7 +75,7 @@ pub fn told(
     answer: Channel,
     back: Channel,
 ) -> Plan
-    requires { ⌜ (channel-number (f .event) < 255) × small (n .next) ⌝ }
+    requires { ⌜ (account (f .event) .channel .0 < 255) × small (n .next) ⌝ }
     ensures { λ r. ⌜ r ≡ told-plan t f count n (live here) (live ahead) (live answer) (live back) ⌝ }
 {
     let e = f.event;

@@ -22,9 +22,10 @@ use Rattle.events.specs.declared.Event.{Event}
 use Rattle.events.specs.declared.Decoded.the-variants.{Known}
 use Rattle.events.specs.Grounds.{grounds, Accepted}
 use Rattle.events.specs.Effects.{effects, after, value}
+use Rattle.events.specs.Accounts.{account}
 use Rattle.events.proofs.SoundStays.{Right, sound-stays-sound, shaped-stays-shaped}
 use Rattle.judge_events.specs.declared.Plan.{Plan}
-use Rattle.read_events.specs.Frames.{master-number, is-begin, frame}
+use Rattle.read_events.specs.Frames.{frame}
 use Rattle.judge_events.specs.Plans.{accepted-plan, plan-by, plan, record-plan, carried-out}
 use Rattle.play_events.proofs.CarriedOut.{Small, framed-master, small, small-after, done-elsewhere}
 use Rattle.play_events.proofs.Carried.{accepted-value, accepted-raises, raised-value}
@@ -50,7 +51,7 @@ module _ (s : Net) (u : State) (right : Right u) (e : Event) (ok : Accepted s e)
   packs = sound-is-packed u (right .shaped) (right .is-sound)
 
   -- the count that it raises is the one that it raised at the start
-  same-count : accepted-plan s e .raises ≡ true → accepted-plan s e .value ≡ getD (u .begins) (agent (master-number e) .0) 0 + 1
+  same-count : accepted-plan s e .raises ≡ true → accepted-plan s e .value ≡ getD (u .begins) (account e .name .master .0) 0 + 1
   unfolding view
   same-count h =
       let n = view u in

@@ -20,7 +20,8 @@ use Rattle.chassis.proofs.Hops.{opposing}
 use Rattle.chassis.proofs.OnTheWay.{next}
 use Rattle.queue.specs.declared.Look.{Look}
 use Rattle.events.specs.declared.Event.{Event}
-use Rattle.read_events.specs.Frames.{moves-on, ahead-or, answer-or, back-or}
+use Rattle.events.specs.Accounts.{account}
+use Rattle.read_events.specs.Frames.{ahead-or, answer-or, back-or}
 use Rattle.read_events.specs.Sights.{small}
 use Rattle.read_events.specs.Sights.{next-told}
 
@@ -56,7 +57,7 @@ module _ (T : Table) (ok : table-passes T ≡ true) where
 
   pub told-onward : (e : Event) (N : Chan) (l : Look) → has-chan T N ≡ true → Onward (next-told T e N l)
   told-onward e N l h =
-      split (moves-on e)
+      split (account e .moves)
       (λ m. split (l .found) (λ f. rw (m, f) (next-onward N (l .entry .target) h)) (λ f. rw (m, f) tt))
       (λ m. rw m tt)
 

@@ -21,98 +21,7 @@ use Rattle.events.specs.declared.Decoded.the-variants.{Known, Unfit}
 use Rattle.read_events.specs.declared.Frame.{Frame}
 use Rattle.read_events.specs.declared.Sight.{Sight}
 use Rattle.events.specs.Tests.{ahead, full-ahead, answer-full, is-channel-with, is-oldest-C}
-
--- ---- an event's fields, kind by kind
-
--- the channel that an event names or begins in
-abbrev pub channel-number : Event → ℕ
-channel-number (BeginPosted m a) = m .0
-channel-number (BeginRead m a) = m .0
-channel-number (BeginWrite m a) = m .0
-channel-number (Commit N t) = N .0
-channel-number (Post N t) = N .0
-channel-number (Latch N t) = N .0
-channel-number (Complete N t) = N .0
-channel-number (DropRequest N t) = N .0
-channel-number (DropCompletion N t) = N .0
-
--- the master that it names
-abbrev pub master-number : Event → ℕ
-master-number (BeginPosted m a) = m .0
-master-number (BeginRead m a) = m .0
-master-number (BeginWrite m a) = m .0
-master-number (Commit N t) = t .master .0
-master-number (Post N t) = t .master .0
-master-number (Latch N t) = t .master .0
-master-number (Complete N t) = t .master .0
-master-number (DropRequest N t) = t .master .0
-master-number (DropCompletion N t) = t .master .0
-
--- a begin's target; other kinds do not use it
-abbrev pub target-number : Event → ℕ
-target-number (BeginPosted m a) = a .0
-target-number (BeginRead m a) = a .0
-target-number (BeginWrite m a) = a .0
-target-number (Commit N t) = 0
-target-number (Post N t) = 0
-target-number (Latch N t) = 0
-target-number (Complete N t) = 0
-target-number (DropRequest N t) = 0
-target-number (DropCompletion N t) = 0
-
--- the number that it names; a begin does not
-abbrev pub number-named : Event → ℕ
-number-named (BeginPosted m a) = 0
-number-named (BeginRead m a) = 0
-number-named (BeginWrite m a) = 0
-number-named (Commit N t) = t .number
-number-named (Post N t) = t .number
-number-named (Latch N t) = t .number
-number-named (Complete N t) = t .number
-number-named (DropRequest N t) = t .number
-number-named (DropCompletion N t) = t .number
-
--- P for kind 5, C for 9, R for 4, 6, 7, 8; a begin adds a P or an R
-abbrev pub kind-named : Event → ℕ
-kind-named (BeginPosted m a) = P
-kind-named (BeginRead m a) = R
-kind-named (BeginWrite m a) = R
-kind-named (Commit N t) = R
-kind-named (Post N t) = P
-kind-named (Latch N t) = R
-kind-named (Complete N t) = R
-kind-named (DropRequest N t) = R
-kind-named (DropCompletion N t) = C
-
--- kinds 1 to 3
-abbrev pub is-begin : Event → Bool
-is-begin (BeginPosted m a) = true
-is-begin (BeginRead m a) = true
-is-begin (BeginWrite m a) = true
-is-begin (Commit N t) = false
-is-begin (Post N t) = false
-is-begin (Latch N t) = false
-is-begin (Complete N t) = false
-is-begin (DropRequest N t) = false
-is-begin (DropCompletion N t) = false
-
--- the kinds that ask for the next place
-abbrev pub moves-on : Event → Bool
-moves-on (BeginPosted m a) = false
-moves-on (BeginRead m a) = false
-moves-on (BeginWrite m a) = false
-moves-on (Commit N t) = false
-moves-on (Post N t) = true
-moves-on (Latch N t) = true
-moves-on (Complete N t) = true
-moves-on (DropRequest N t) = false
-moves-on (DropCompletion N t) = false
-
-abbrev pub channel-named : Event → Chan
-channel-named e = chan (channel-number e)
-
-abbrev pub transaction-named : Event → Transaction
-transaction-named e = record { master = agent (master-number e); number = number-named e }
+use Rattle.events.specs.Accounts.{account}
 
 -- ---- the frame
 
@@ -141,9 +50,9 @@ named-frame T e N t =
 
 abbrev pub event-frame : Table → Event → Frame
 event-frame T e =
-    cond (is-begin e)
-    (begin-frame T e (agent (master-number e)) (agent (target-number e)))
-    (named-frame T e (channel-named e) (transaction-named e))
+    cond (account e .begins)
+    (begin-frame T e (account e .name .master) (account e .target))
+    (named-frame T e (account e .channel) (account e .name))
 
 -- 1
 abbrev pub frame : Table → Decoded → Frame
@@ -154,11 +63,11 @@ frame T (Known e) = event-frame T e
 
 -- what the named channel shows
 unfoldable pub look-at : Net → Event → Look
-look-at s e = look-of (kind-named e) (transaction-named e) (waiting s (channel-named e))
+look-at s e = look-of (account e .kind) (account e .name) (waiting s (account e .channel))
 
 -- the next place, where the kind asks for it and the entry is there
 unfoldable pub next-of : Net → Event → NextPlace
-next-of s e = cond (moves-on e && stands (kind-named e) (transaction-named e) (waiting s (channel-named e))) (ahead s (kind-named e) (channel-named e) (transaction-named e)) Target
+next-of s e = cond (account e .moves && stands (account e .kind) (account e .name) (waiting s (account e .channel))) (ahead s (account e .kind) (account e .channel) (account e .name)) Target
 
 -- the channels beside N: N1, its opposite, and the opposite of N; N itself where there is none
 abbrev pub ahead-or : Chan → NextPlace → Chan

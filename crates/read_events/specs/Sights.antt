@@ -17,12 +17,13 @@ use Rattle.queue.specs.Queues.{stands, first-C, at-limit}
 use Rattle.queue.specs.code.Changes.{look-of}
 use Rattle.events.specs.declared.Event.{Event}
 use Rattle.events.specs.declared.Event.the-variants.{BeginPosted, BeginRead, BeginWrite, Commit, Post, Latch, Complete, DropRequest, DropCompletion}
+use Rattle.events.specs.Accounts.{account}
 use Rattle.read_events.specs.declared.Sight.{Sight}
-use Rattle.read_events.specs.Frames.{moves-on, dull, sees-full}
+use Rattle.read_events.specs.Frames.{dull, sees-full}
 
 -- the next place, where the kind asks for it and the entry is there
 abbrev pub next-told : Table → Event → Chan → Look → NextPlace
-next-told T e N l = cond (moves-on e) (cond (l .found) (next-place T N (l .entry .target)) Target) Target
+next-told T e N l = cond (account e .moves) (cond (l .found) (next-place T N (l .entry .target)) Target) Target
 
 -- a next place's number has room above it
 abbrev pub small : NextPlace → Type 0

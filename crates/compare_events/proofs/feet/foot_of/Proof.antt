@@ -4,14 +4,14 @@ use mathlib.Core.Bool.{true}
 use Rattle.chassis.specs.declared.Table.{Table}
 use Rattle.chassis.specs.Channels.{has-chan}
 use Rattle.events.specs.declared.Event.{Event}
-use Rattle.read_events.specs.Frames.{channel-named}
+use Rattle.events.specs.Accounts.{account}
 use Rattle.compare_events.specs.Feet.{foot}
 use borrow.Author.Needs.{needs}
 use Rattle.compare_events.proofs.feet.foot_of.Statement.{statement}
 use Rattle.compare_events.proofs.feet.foot_of.Tie as tie
 
-named-there : (T : Table) {e f : Event} → e ≡ f → has-chan T (channel-named e) ≡ true → has-chan T (channel-named f) ≡ true
-named-there T p h = subst (λ (x : Event). has-chan T (channel-named x) ≡ true) p h
+named-there : (T : Table) {e f : Event} → e ≡ f → has-chan T (account e .channel) ≡ true → has-chan T (account f .channel) ≡ true
+named-there T p h = subst (λ (x : Event). has-chan T (account x .channel) ≡ true) p h
 
 enum-known-e : tie.Need-enum-known-e
 enum-known-e c = search needs

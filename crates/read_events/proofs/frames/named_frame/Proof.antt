@@ -5,26 +5,17 @@ use Rattle.base.proofs.Cases.{cases}
 use Rattle.read_events.proofs.frames.named_frame.Statement.{statement}
 use Rattle.read_events.proofs.frames.named_frame.Tie as tie
 
-cast-agents : tie.Need-cast-agents
-cast-agents c = search needs
-
-cast-bridges : tie.Need-cast-bridges
-cast-bridges c = search needs
-
-mul-if1 : tie.Need-mul-if1
-mul-if1 c = search needs
-
-add-if1 : tie.Need-add-if1
-add-if1 c = search needs
-
-cast-if1 : tie.Need-cast-if1
-cast-if1 c = search needs
+has-chan-requires : tie.Need-has-chan-requires
+has-chan-requires c κs = search needs
 
 refused-frame-requires : tie.Need-refused-frame-requires
 refused-frame-requires c κs = search needs
 
 returns : tie.Need-returns
 returns c = search cases depth 30
+
+has-agent-requires : tie.Need-has-agent-requires
+has-agent-requires c κs = search needs
 
 refused-frame-requires-2 : tie.Need-refused-frame-requires-2
 refused-frame-requires-2 c κs = search needs
@@ -39,13 +30,10 @@ pub named-frame-spec : {M : Type 1} → statement M
 named-frame-spec =
     tie.close
     (tie.spec
-    cast-agents
-    cast-bridges
-    mul-if1
-    add-if1
-    cast-if1
+    has-chan-requires
     refused-frame-requires
     returns
+    has-agent-requires
     refused-frame-requires-2
     returns-2
     returns-3)
