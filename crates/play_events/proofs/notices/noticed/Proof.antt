@@ -9,21 +9,18 @@ use borrow.Author.Needs.{needs}
 use Rattle.play_events.proofs.notices.noticed.Statement.{statement}
 use Rattle.play_events.proofs.notices.noticed.Tie as tie
 
-look-is : (c : tie.After-looked) → c .looked .result ≡ look-told (c .before .before .before .before .args .f) (live (c .before .before .before .before .args .here))
-look-is c = c .looked .ensures ∙ rw (c .before .before .kind-named .ensures, c .before .transaction-named .ensures)
+look-is : (c : tie.After-looked) → c .looked .result ≡ look-told (c .before .before .before .args .f) (live (c .before .before .before .args .here))
+look-is c = c .looked .ensures ∙ rw (c .before .account .ensures)
 
-kind-named-requires : tie.Need-kind-named-requires
-kind-named-requires c κs = search needs
-
-transaction-named-requires : tie.Need-transaction-named-requires
-transaction-named-requires c κs = search needs
+account-requires : tie.Need-account-requires
+account-requires c κs = search needs
 
 looked-requires : tie.Need-looked-requires
 looked-requires c κs = search needs
 
 next-of-requires : tie.Need-next-of-requires
 next-of-requires c κs =
-    let s = c .before .before .before .before in
+    let s = c .before .before .before in
     (s .pre .0, s .pre .1, subst (Aimed (s .args .t)) (sym (look-is c)) (s .pre .2), s .pre .3)
 
 ahead-or-requires : tie.Need-ahead-or-requires
@@ -31,7 +28,7 @@ ahead-or-requires c κs = search needs
 
 answer-or-requires : tie.Need-answer-or-requires
 answer-or-requires c κs =
-    let s = c .before .before .before .before .before .before in
+    let s = c .before .before .before .before .before in
     let f = s .args .f in
     let n = c .before .next-of in
     onward-small (s .args .t) (s .pre .0) (n .result)
@@ -39,7 +36,7 @@ answer-or-requires c κs =
 
 back-or-requires : tie.Need-back-or-requires
 back-or-requires c κs =
-    let s = c .before .before .before .before .before .before .before in
+    let s = c .before .before .before .before .before .before in
     let h = one-of-62 (s .args .t) (s .pre .0) (s .args .f .at) (s .pre .1) in
     omega arith
 
@@ -52,8 +49,7 @@ pub noticed-spec : {M : Type 1} → statement M
 noticed-spec =
     tie.close
     (tie.spec
-    kind-named-requires
-    transaction-named-requires
+    account-requires
     looked-requires
     next-of-requires
     ahead-or-requires
