@@ -4,7 +4,7 @@ use chassis::Bridge;
 use chassis::Bus;
 use chassis::Table;
 use chassis::TableAnswer;
-use chassis::tables::table_answer;
+use check_tables::tables::table_answer;
 ghost use mathlib.Core.Path.{_≡_};
 ghost use Prim.Native.Nat.{_+_, _*_, _<_, _≤_};
 ghost use mathlib.Core.Bool.{_||_};

@@ -9,9 +9,4 @@ pub mod Passing
 pub mod Steps
 pub mod Hops
 pub mod OnTheWay
-pub mod Levels
-pub mod Nearest
-pub mod Following
-pub mod Places
-pub mod Asking
 pub mod Numbered

@@ -5,4 +5,3 @@ pub mod Ways
 pub mod Routes
 pub mod Tables
 pub mod Answers
-pub mod code

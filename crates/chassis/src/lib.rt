@@ -1,9 +1,6 @@
 // The table: buses, bridges and agents, and what follows from it alone.
 
 pub mod channels; // channels.rt: channels and their buses
-pub mod labels; // labels.rt: components, level by level
-pub mod routes; // routes.rt: the next place, and what lies on a way
-pub mod tables; // tables.rt: grounds 23 to 27
 
 // Agent numbers, bus numbers and channel numbers are kept apart throughout: one type each.
 pub struct Agent(pub u8);

@@ -16,7 +16,7 @@ use Rattle.chassis.specs.Channels.{no-bridge}
 use Rattle.chassis.specs.Tables.{counts-in-range}
 use Rattle.chassis.specs.Answers.{table-answer}
 use Rattle.chassis.proofs.Counts.{Counts, counts}
-use Rattle.chassis.proofs.Asking.{says-23}
+use Rattle.check_tables.proofs.Asking.{says-23}
 use Rattle.lent_tables.specs.declared.Numbers.{Numbers}
 use Rattle.lent_tables.specs.Lists.{table-of, lent-answer, joined-of}
 use Rattle.lent_tables.specs.code.Made.{empty, bridge-added, home-added, all-added, joined-in}

@@ -12,7 +12,7 @@ use chassis::Bridge;
 use chassis::Bus;
 use chassis::Table;
 use chassis::TableAnswer;
-use chassis::tables::table_answer;
+use check_tables::tables::table_answer;
 
 // No bridge and no agent yet.
 pub fn empty(m: Numbers) -> Table

@@ -13,7 +13,7 @@ use chassis::Bus;
 use chassis::Chan;
 use chassis::Table;
 use chassis::TableAnswer;
-use chassis::tables::table_answer;
+use check_tables::tables::table_answer;
 use queue::Change;
 use queue::Channel;
 

@@ -1,7 +1,7 @@
 // Records played on a state. One function holds the state and stores into it; judges see what was read off its channels.
 use crate::notices::noticed;
 use crate::notices::told;
-use chassis::labels::ladder;
+use check_tables::labels::ladder;
 use events::records::decode_at;
 use network::State;
 use read_events::frames::record_frame;

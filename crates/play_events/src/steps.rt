@@ -4,7 +4,7 @@ use crate::in_turn::play;
 use crate::in_turn::raised;
 use crate::notices::noticed;
 use crate::notices::told;
-use chassis::labels::ladder;
+use check_tables::labels::ladder;
 use events::Answer;
 use events::Outcome;
 use events::Step;

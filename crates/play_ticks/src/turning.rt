@@ -4,7 +4,7 @@ use crate::Turn;
 use crate::Turns;
 use crate::pairs::first_pair;
 use chassis::Agent;
-use chassis::labels::ladder;
+use check_tables::labels::ladder;
 use compare_events::feet::foot_of;
 use compare_events::feet::no_foot;
 use events::records::decode_at;

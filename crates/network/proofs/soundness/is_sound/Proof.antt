@@ -10,8 +10,8 @@ use Rattle.base.proofs.Cases.{by-call-not, by-call-so}
 use Rattle.base.proofs.Walks.{owned}
 use Rattle.base.proofs.Loops.{Left, cells-left, stops, goes-on, ends}
 use Rattle.chassis.specs.Tables.{table-passes}
-use Rattle.chassis.proofs.Places.{in-range}
-use Rattle.chassis.proofs.Asking.{answered-passes, answered-refused}
+use Rattle.find_routes.proofs.Places.{in-range}
+use Rattle.check_tables.proofs.Asking.{answered-passes, answered-refused}
 use Rattle.network.specs.Shapes.{no-channel}
 use Rattle.network.specs.code.Testing.{sound-channel}
 use Rattle.network.proofs.Testing.{bad-table, bad-channel, by-counts}

@@ -2,8 +2,8 @@
 -- The idea: what is left to do, done from here, is the whole (`Playing`); a turn reads what the state shows, so its plan is the record's own, and stores what the step stores.
 use lib.ListN.{length}
 use mathlib.Core.Path.{_≡_, refl, ap, sym, _∙_}
-use Rattle.chassis.specs.code.Ladders.{ladder-of}
-use Rattle.chassis.proofs.Places.{in-range}
+use Rattle.check_tables.specs.Ladders.{ladder-of}
+use Rattle.find_routes.proofs.Places.{in-range}
 use Rattle.network.proofs.OfType.{of-type}
 use Rattle.events.proofs.SoundStays.{Right}
 use Rattle.read_events.specs.declared.Frame.{Frame}

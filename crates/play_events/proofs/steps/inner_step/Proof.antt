@@ -3,7 +3,7 @@
 use lib.ListN.{getD}
 use mathlib.Core.Bool.{cond}
 use mathlib.Core.Path.{_≡_, refl, ap, _∙_}
-use Rattle.chassis.proofs.Places.{in-range}
+use Rattle.find_routes.proofs.Places.{in-range}
 use Rattle.network.specs.code.Acts.{acted-on, counted}
 use Rattle.network.proofs.OfType.{of-type}
 use Rattle.events.specs.declared.Decoded.the-variants.{Known}

@@ -5,7 +5,7 @@ use native.Mathlib.Omega.{arith}
 use Prim.Native.Nat.{ℕ, _≤_, _+_, _-_, _*_, _/_}
 use lib.ListN.{length, replicate}
 use Rattle.base.proofs.Walks.{owned}
-use Rattle.chassis.proofs.Places.{in-range}
+use Rattle.find_routes.proofs.Places.{in-range}
 use Rattle.network.specs.Nets.{view}
 use Rattle.network.proofs.OfType.{of-type}
 use Rattle.events.proofs.SoundStays.{Right}

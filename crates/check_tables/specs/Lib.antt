@@ -1,0 +1,2 @@
+-- What the table check is made of.
+pub mod Ladders

@@ -1,0 +1,2 @@
+// The next place on a route, and what lies on a way.
+pub mod routes;
