@@ -1,10 +1,11 @@
 -- A list in another order holds the same elements, each as often; what is said of each element, or of any two, is then said there too.
 -- An order is made by turning neighbours about; where sameness is tested, equal counts say which neighbours to turn.
-use Prim.Native.Nat.{suc, _<_}
+use Prim.Native.Nat.{ℕ, zero, suc, _<_}
 use mathlib.Core.Path.{_≡_, refl, sym, ap, subst, _∙_}
 use mathlib.Core.Bool.{Bool, true}
-use mathlib.Core.List.{List, [], _∷_, _++_}
+use mathlib.Core.List.{List, [], _∷_, _++_, map}
 use native.Mathlib.Omega.{arith}
+use lib.ListN.{length, getD}
 use Rattle.base.specs.Lists.{alter, count}
 use Rattle.base.proofs.Logic.{split}
 
@@ -37,6 +38,16 @@ module _ {A : Type 0} where
   all-parts P [] m h = (tt, h)
   all-parts P (a ∷ l) m h = let r = all-parts P l m (h .1) in ((h .0, r .0), r .1)
 
+  -- by their places; d is read where there is none
+  pub all-at : (P : A → Type 0) (d : A) (l : List A) → All P l → (i : ℕ) → i < length l → P (getD l i d)
+  all-at P d [] h i k = absurd (omega arith)
+  all-at P d (a ∷ l) h zero k = h .0
+  all-at P d (a ∷ l) h (suc i) k = all-at P d l (h .1) i (omega arith)
+
+  pub at-all : (P : A → Type 0) (d : A) (l : List A) → ((i : ℕ) → i < length l → P (getD l i d)) → All P l
+  at-all P d [] h = tt
+  at-all P d (a ∷ l) h = (h zero (omega arith), at-all P d l (λ i k. h (suc i) (omega arith)))
+
 -- ---- orders
 
 pub data Order {A : Type 0} : List A → List A → Type 0 where
@@ -44,6 +55,16 @@ pub data Order {A : Type 0} : List A → List A → Type 0 where
   keep : {a : A} {l m : List A} → Order l m → Order (a ∷ l) (a ∷ m)
   turn : {a b : A} {l : List A} → Order (a ∷ b ∷ l) (b ∷ a ∷ l)
   then : {l m n : List A} → Order l m → Order m n → Order l n
+
+-- two lists that are one begin with one, and go on alike
+no-first : {A : Type 0} {a : A} {l : List A} → _≡_ {A = List A} [] (a ∷ l) → ⊥
+no-first e = let z : _≡_ {A = ℕ} 0 1 = cc in omega arith
+
+first-is : {A : Type 0} {a b : A} {l m : List A} → a ∷ l ≡ b ∷ m → a ≡ b
+first-is e = cc
+
+rest-is : {A : Type 0} {a b : A} {l m : List A} → a ∷ l ≡ b ∷ m → l ≡ m
+rest-is e = cc
 
 module _ {A : Type 0} where
   pub order-back : {l m : List A} → Order l m → Order m l
@@ -67,6 +88,34 @@ module _ {A : Type 0} where
   pairwise-order R s (keep {a = a} o) h = (all-order (R a) o (h .0), pairwise-order R s o (h .1))
   pairwise-order R s (turn {a = a} {b = b}) h = ((s a b (h .0 .0), h .1 .0), (h .0 .1, h .1 .1))
   pairwise-order R s (then o p) h = pairwise-order R s p (pairwise-order R s o h)
+
+  pub order-length : {l m : List A} → Order l m → length l ≡ length m
+  order-length done = refl
+  order-length (keep o) = ap suc (order-length o)
+  order-length turn = refl
+  order-length (then o p) = order-length o ∙ order-length p
+
+  pub order-map : {B : Type 0} (f : A → B) {l m : List A} → Order l m → Order (map f l) (map f m)
+  order-map f done = done
+  order-map f (keep o) = keep (order-map f o)
+  order-map f turn = turn
+  order-map f (then o p) = then (order-map f o) (order-map f p)
+
+  -- an order of what f makes is made of an order
+  pub order-unmap : {B : Type 0} (f : A → B) {l m : List B} → Order l m → (k : List A) → l ≡ map f k → (n : List A) × (m ≡ map f n) × Order k n
+  order-unmap f done [] e = ([], refl, done)
+  order-unmap f done (a ∷ k) e = absurd (no-first e)
+  order-unmap f (keep o) [] e = absurd (no-first (sym e))
+  order-unmap f (keep o) (a ∷ k) e =
+      let r = order-unmap f o k (rest-is e) in
+      (a ∷ r .0, (λ i. first-is e i ∷ r .1 i), keep (r .2))
+  order-unmap f turn [] e = absurd (no-first (sym e))
+  order-unmap f turn (a ∷ []) e = absurd (no-first (sym (rest-is e)))
+  order-unmap f turn (a ∷ b ∷ k) e = (b ∷ a ∷ k, (λ i. first-is (rest-is e) i ∷ first-is e i ∷ rest-is (rest-is e) i), turn)
+  order-unmap f (then o p) k e =
+      let r = order-unmap f o k e in
+      let q = order-unmap f p (r .0) (r .1) in
+      (q .0, q .1, then (r .2) (q .2))
 
   -- an order holds each element as often
   pub count-order : (p : A → Bool) {l m : List A} → Order l m → count p l ≡ count p m
@@ -108,3 +157,15 @@ module _ {A : Type 0} where
     counted-is-order (a ∷ l) m h =
         let o = to-front a m (omega (arith, h a, here a l)) in
         then (keep (counted-is-order l (alter (same a) (λ _. []) m) (λ b. behind (same b) a l (alter (same a) (λ _. []) m) (h b ∙ count-order (same b) o)))) (order-back o)
+
+-- ---- two lists side by side
+
+-- each with what stands at its place in the other list; what has no partner is left out
+abbrev pub paired : {A B : Type 0} → List A → List B → List (A × B)
+paired [] m = []
+paired (a ∷ l) [] = []
+paired (a ∷ l) (b ∷ m) = (a, b) ∷ paired l m
+
+pub paired-map : {A B : Type 0} (f : A → B) (l : List A) (rest : List B) → paired l (map f l ++ rest) ≡ map (λ a. (a, f a)) l
+paired-map f [] rest = refl
+paired-map f (a ∷ l) rest = ap ((a, f a) ∷_) (paired-map f l rest)

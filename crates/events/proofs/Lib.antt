@@ -8,3 +8,4 @@ pub mod Kept
 pub mod SoundStays
 pub mod FirstBegins
 pub mod RefusedExactly
+pub mod NumberZero

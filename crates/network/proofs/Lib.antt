@@ -8,3 +8,4 @@ pub mod Good
 pub mod Kept
 pub mod Acts
 pub mod OfType
+pub mod NumberZero
