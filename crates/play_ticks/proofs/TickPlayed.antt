@@ -1,20 +1,15 @@
 -- The tick on a sound state: refused, it answers what its judging found and everything stands as it stood; accepted, it is its turns carried out.
 use Prim.Native.Nat.{ℕ, zero, suc, _/_, _%_, _<_, _≤_}
 use mathlib.Core.Path.{_≡_, refl, sym, ap, subst, _∙_}
-use mathlib.Core.Bool.{Bool, true, false, not, _||_}
+use mathlib.Core.Bool.{true, false}
 use mathlib.Core.List.{List, [], _∷_, _++_, map}
-use mathlib.Core.Option.{none, some}
 use native.Mathlib.Omega.{arith}
-use borrow.Author.Tests.{ne-eqb, eq-eqb, lt-ltb, le-ltb}
-use lib.Dec.{eqb, ltb}
 use lib.ListN.{length, getD, take, drop, replicate, length-map}
 use lib.Seq.{getD-take, take-at}
-use Rattle.base.specs.Grounds.{refusal}
 use Rattle.base.proofs.Logic.{split, there, true-false}
 use Rattle.base.proofs.Orders.{All}
 use Rattle.network.specs.declared.State.{State}
 use Rattle.network.specs.Nets.{Net, view, pack}
-use Rattle.network.specs.Soundness.{sound}
 use Rattle.events.specs.declared.Event.{Event}
 use Rattle.events.specs.declared.Decoded.{Decoded}
 use Rattle.events.specs.declared.Decoded.the-variants.{Known}
@@ -30,10 +25,11 @@ use Rattle.read_events.proofs.Onward.{one-of-62, one-of-32}
 use Rattle.play_events.proofs.There.{plan-there}
 use Rattle.ticks.specs.declared.TickAnswer.{TickAnswer}
 use Rattle.ticks.specs.declared.TickAnswer.the-variants.{Accepted, Refused, Conflict}
-use Rattle.ticks.specs.Ticks.{known, end-of, first-refused, first-pair, Ticked, held, ticked, tick-grounds, judged, tick}
+use Rattle.ticks.specs.Ticks.{known, end-of, first-refused, first-pair, Ticked, held, judged, tick}
 use Rattle.ticks.proofs.Searches.{known-all, refuses-none}
 use Rattle.ticks.proofs.Judged.{none-refused}
-use Rattle.ticks.proofs.TickAcceptsExactly.{Orderly, Ends, tick-accepts-exactly, tick-ends, no-tick-ground}
+use Rattle.ticks.proofs.TickGrounds.{no-tick-ground}
+use Rattle.ticks.proofs.TickAcceptsExactly.{Orderly, Ends, tick-accepts-exactly, tick-ends}
 use Rattle.play_ticks.specs.declared.Turn.{Turn}
 use Rattle.play_ticks.specs.Turns.{no-turn, turn, turns-made, in-places, is-accepted, judged-answer, Placed, all-turned, turn-values}
 use Rattle.play_ticks.proofs.Judging.{all-made}
@@ -43,31 +39,6 @@ pub accepted-so : (a : TickAnswer) → is-accepted a ≡ true → a ≡ Accepted
 accepted-so Accepted h = refl
 accepted-so (Refused n i) h = absurd (true-false (sym h))
 accepted-so (Conflict i j) h = absurd (true-false (sym h))
-
--- ---- 16, 18, 17
-
-module _ (s : State) (b out : List ℕ) where
-  -- a tick refused at once
-  pub refused-at-once : (n : ℕ) → refusal (tick-grounds s b out) ≡ some n → tick s b out ≡ held s out (Refused n 0)
-  unfolding tick
-  refused-at-once n h = rw (h, tick)
-
-  pub unsound : sound s ≡ false → refusal (tick-grounds s b out) ≡ some 16
-  unfolding tick-grounds
-  unsound h = rw h
-
-  module _ (h : sound s ≡ true) where
-    pub not-eights : (length b % 8 ≡ 0 → ⊥) → refusal (tick-grounds s b out) ≡ some 18
-    unfolding tick-grounds
-    not-eights k = rw (h, ne-eqb (length b % 8) 0 k)
-
-    pub too-many : length b % 8 ≡ 0 → 504 < length b → refusal (tick-grounds s b out) ≡ some 18
-    unfolding tick-grounds
-    too-many k l = rw (h, eq-eqb (length b % 8) 0 k, lt-ltb 504 (length b) l)
-
-    pub too-short : length b % 8 ≡ 0 → length b ≤ 504 → length out < length b / 8 → refusal (tick-grounds s b out) ≡ some 17
-    unfolding tick-grounds
-    too-short k l m = rw (h, eq-eqb (length b % 8) 0 k, le-ltb 504 (length b) l, lt-ltb (length out) (length b / 8) m)
 
 -- ---- a turn points to places that are there
 
@@ -102,7 +73,7 @@ module _ (s : State) (right : Right s) (b out : List ℕ) (whole : length b % 8 
 
   is-judged : tick s b out ≡ judged s out ds
   unfolding tick
-  is-judged = rw (no-tick-ground s b out (right .is-sound) whole few places, tick)
+  is-judged = rw (no-tick-ground s b out .1 (record { is-sound = right .is-sound; whole = whole; few = few; places = places }), tick)
 
   pub answer-is : tick s b out .answer ≡ judged-answer (view s) ds
   unfolding judged judged-answer

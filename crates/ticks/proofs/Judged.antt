@@ -6,19 +6,19 @@ use mathlib.Core.Option.{none, some}
 use native.Mathlib.Omega.{arith}
 use Rattle.base.specs.Grounds.{refusal}
 use Rattle.base.proofs.Logic.{there, none-some}
+use Rattle.base.proofs.Orders.{All}
 use Rattle.network.specs.declared.State.{State}
 use Rattle.network.specs.Nets.{Net, view}
 use Rattle.events.specs.Records.{records}
 use Rattle.events.specs.declared.Decoded.{Decoded}
 use Rattle.events.specs.Steps.{record-grounds}
 use Rattle.ticks.specs.declared.TickAnswer.{TickAnswer}
-use Rattle.ticks.specs.declared.TickAnswer.the-variants.{Accepted, Refused, Conflict}
-use Rattle.ticks.specs.Ticks.{first-refused, first-pair, known, tick-grounds, judged, tick}
+use Rattle.ticks.specs.declared.TickAnswer.the-variants.{Accepted, Refused}
+use Rattle.ticks.specs.Ticks.{first-refused, tick-grounds, judged, tick}
 
 -- each is accepted alone in s
 abbrev pub EachAlone : Net → List Decoded → Type 0
-EachAlone s [] = Unit {0}
-EachAlone s (d ∷ ds) = (refusal (record-grounds s d) ≡ none) × EachAlone s ds
+EachAlone s = All (λ d. refusal (record-grounds s d) ≡ none)
 
 pub none-refused : (s : Net) (i : ℕ) (ds : List Decoded) → first-refused s i ds ≡ none → EachAlone s ds
 unfolding first-refused

@@ -9,9 +9,11 @@ pub mod Diamond
 pub mod Reordered
 pub mod OrderCannotMatter
 pub mod Searches
+pub mod TickGrounds
 pub mod Verdicts
 pub mod TickAcceptsExactly
 pub mod TrueCulprit
 pub mod EachCaseIsNeeded
 pub mod WrongTicks
 pub mod RefusedTicks
+pub mod AnyOrder

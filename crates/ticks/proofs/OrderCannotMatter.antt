@@ -65,13 +65,13 @@ in-listed-order s h (e ∷ es) g =
 
 -- ---- in every order
 
-agrees-too : (s : Net) {es fs : List Event} → Order es fs → Agreeing s es → Agreeing s fs
+pub agrees-too : (s : Net) {es fs : List Event} → Order es fs → Agreeing s es → Agreeing s fs
 agrees-too s o g = record {
   alone = all-order (Accepted s) o (g .alone);
   apart = pairwise-order (Peaceful s) (peaceful-back s) o (g .apart);
 }
 
-same-end : (s : Net) → table-passes (s .table) ≡ true → {es fs : List Event} → Order es fs → Agreeing s es → end-of s fs ≡ end-of s es
+pub same-end : (s : Net) → table-passes (s .table) ≡ true → {es fs : List Event} → Order es fs → Agreeing s es → end-of s fs ≡ end-of s es
 unfolding end-of
 same-end s h done g = refl
 same-end s h (keep {a = e} {l = es} o) g = same-end (after s e) (still-passes s e h) o (rest-agrees s h e es g)

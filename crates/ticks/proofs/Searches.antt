@@ -1,4 +1,4 @@
--- What the tick's searches find: none exactly where there is none, otherwise the lowest record refused alone, the lowest partner, the lowest pair.
+-- What the tick's searches find: none exactly where there is none, otherwise exactly the lowest record refused alone, the lowest partner, the lowest pair.
 -- Each by going down the list; what is not found at the front is found behind it, one place later.
 use Prim.Native.Nat.{ℕ, zero, suc, _+_, _<_}
 use native.Mathlib.Omega.{arith}
@@ -10,7 +10,7 @@ use mathlib.Core.Option.{none, some}
 use lib.ListN.{length, getD}
 use Rattle.base.specs.Grounds.{refusal}
 use Rattle.base.proofs.Logic.{split, there, none-some}
-use Rattle.base.proofs.Orders.{All, Pairwise}
+use Rattle.base.proofs.Orders.{All, Pairwise, all-at, at-all}
 use Rattle.network.specs.Nets.{Net}
 use Rattle.events.specs.declared.Event.{Event}
 use Rattle.events.specs.declared.Decoded.{Decoded}
@@ -69,8 +69,11 @@ pair-none s i (e ∷ es) = (
 
 -- the record at `place` is refused for `number`, and none before it
 pub record LowestRefused (s : Net) (ds : List Decoded) (number place : ℕ) : Type 0 where
+  -- there is such a record
   pub in-list : place < length ds
+  -- alone in s, `number` is the first ground that holds of it
   pub refused : refusal (record-grounds s (getD ds place Unfit)) ≡ some number
+  -- every record before it is accepted alone in s
   pub before : (j : ℕ) → j < place → refusal (record-grounds s (getD ds j Unfit)) ≡ none
 
 refused-later : (s : Net) (d : Decoded) (ds : List Decoded) (n i : ℕ) → refusal (record-grounds s d) ≡ none → LowestRefused s ds n i
@@ -93,6 +96,16 @@ finds-refused s i (d ∷ ds) a h =
     (λ n k.
     let z : a ≡ Refused n i = cc (rw (k, first-refused) at h) in
     (n, 0, z ∙ ap (Refused n) (omega arith), record { in-list = omega arith; refused = k; before = λ j l. absurd (omega arith) }))
+
+pub refused-is-found : (s : Net) (i : ℕ) (ds : List Decoded) (n k : ℕ) → LowestRefused s ds n k → first-refused s i ds ≡ some (Refused n (i + k))
+unfolding first-refused
+refused-is-found s i [] n k r = absurd (omega (arith, r .in-list))
+refused-is-found s i (d ∷ ds) n zero r = rw (r .refused, first-refused) (ap (λ (j : ℕ). some (Refused n j)) (omega arith))
+refused-is-found s i (d ∷ ds) n (suc k) r =
+    rw (r .before zero (omega arith), first-refused)
+    (refused-is-found s (suc i) ds n k
+    (record { in-list = omega (arith, r .in-list); refused = r .refused; before = λ j l. r .before (suc j) (omega arith) })
+    ∙ ap (λ (j : ℕ). some (Refused n j)) (omega arith))
 
 -- ---- the lowest conflicting pair
 
@@ -120,20 +133,28 @@ module _ (s : Net) (d : Event) where
       earlier k t b zero m = t
       earlier k t b (suc l) m = b l (omega arith)
 
-  no-partner : (e : Event) (fs : List Event) → All (Peaceful s e) fs → (l : ℕ) → l < length fs → conflict s e (getD fs l d) ≡ false
-  no-partner e [] h l k = absurd (omega arith)
-  no-partner e (f ∷ fs) h zero k = h .0
-  no-partner e (f ∷ fs) h (suc l) k = no-partner e fs (h .1) l (omega arith)
+  partner-is-found : (e : Event) (i : ℕ) (fs : List Event) (k : ℕ) → LowestPartner e fs k → partner s e i fs ≡ some (i + k)
+  unfolding partner
+  partner-is-found e i [] k r = absurd (omega (arith, r .in-list))
+  partner-is-found e i (f ∷ fs) zero r = rw (r .conflicts, partner) (ap some (omega arith))
+  partner-is-found e i (f ∷ fs) (suc k) r =
+      rw (r .before zero (omega arith), partner)
+      (partner-is-found e (suc i) fs k
+      (record { in-list = omega (arith, r .in-list); conflicts = r .conflicts; before = λ j l. r .before (suc j) (omega arith) })
+      ∙ ap some (omega arith))
 
   -- the pair (k, l) comes before the pair (i, j)
   abbrev pub Before : ℕ → ℕ → ℕ → ℕ → Type 0
   Before k l i j = (k < i) ⊎ ((k ≡ i) × (l < j))
 
-  -- the events at i and j conflict, and those of no pair before it
+  -- the events at i and j conflict, and those of no pair before it; d would be read behind the list's end, and never is
   pub record LowestPair (es : List Event) (i j : ℕ) : Type 0 where
+    -- two places of the list, the lower one first
     pub in-order : i < j
     pub in-list : j < length es
+    -- their events conflict in s
     pub conflicts : conflict s (getD es i d) (getD es j d) ≡ true
+    -- no two conflict of which the first stands before i, or is i and the second stands before j
     pub before : (k l : ℕ) → k < l → l < length es → Before k l i j → conflict s (getD es k d) (getD es l d) ≡ false
 
   pair-later : (e : Event) (es : List Event) (i j : ℕ) → All (Peaceful s e) es → LowestPair es i j → LowestPair (e ∷ es) (suc i) (suc j)
@@ -150,7 +171,7 @@ module _ (s : Net) (d : Event) where
 
       earlier : (k l : ℕ) → k < l → l < length (e ∷ es) → Before k l (suc i) (suc j) → conflict s (getD (e ∷ es) k d) (getD (e ∷ es) l d) ≡ false
       earlier k zero a b c = absurd (omega arith)
-      earlier zero (suc l) a b c = no-partner e es h l (omega arith)
+      earlier zero (suc l) a b c = all-at (Peaceful s e) d es h l (omega arith)
       earlier (suc k) (suc l) a b c = r .before k l (omega arith) (omega arith) (nearer k l c)
 
   pair-here : (e : Event) (es : List Event) (j : ℕ) → LowestPartner e es j → LowestPair (e ∷ es) 0 (suc j)
@@ -167,6 +188,9 @@ module _ (s : Net) (d : Event) where
       earlier zero (suc l) a b (inr c) = r .before l (omega (arith, c .1))
       earlier (suc k) l a b (inr c) = absurd (omega (arith, c .0))
 
+  places : {k l m n : ℕ} → k ≡ m → l ≡ n → Conflict k l ≡ Conflict m n
+  places p q = λ x. Conflict (p x) (q x)
+
   pub finds-pair : (i : ℕ) (es : List Event) (a : TickAnswer) → first-pair s i es ≡ some a
       → (k l : ℕ) × (a ≡ Conflict (i + k) (i + l)) × LowestPair es k l
   unfolding first-pair
@@ -180,6 +204,31 @@ module _ (s : Net) (d : Event) where
       let z : a ≡ Conflict i j = cc (rw (n, first-pair) at h) in
       let r = finds-partner e (suc i) es j n in
       (0, suc (r .0), z ∙ places (omega arith) (omega (arith, r .1)), pair-here e es (r .0) (r .2)))
+
+  pub pair-is-found : (i : ℕ) (es : List Event) (k l : ℕ) → LowestPair es k l → first-pair s i es ≡ some (Conflict (i + k) (i + l))
+  unfolding first-pair
+  pair-is-found i [] k l r = absurd (omega (arith, r .in-list))
+  pair-is-found i (e ∷ es) k zero r = absurd (omega (arith, r .in-order))
+  pair-is-found i (e ∷ es) zero (suc l) r =
+      let p = partner-is-found e (suc i) es l
+      (record {
+        in-list = omega (arith, r .in-list);
+        conflicts = r .conflicts;
+        before = λ j h. r .before zero (suc j) (omega arith) (omega (arith, r .in-list)) (inr (refl, omega arith));
+      }) in
+      rw (p, first-pair) (ap some (places (omega arith) (omega arith)))
+  pair-is-found i (e ∷ es) (suc k) (suc l) r =
+      let n = partner-none s e (suc i) es .1 (at-all (Peaceful s e) d es (λ j h. r .before zero (suc j) (omega arith) (omega arith) (inl (omega arith)))) in
+      rw (n, first-pair)
+      (pair-is-found (suc i) es k l
+      (record {
+        in-order = omega (arith, r .in-order);
+        in-list = omega (arith, r .in-list);
+        conflicts = r .conflicts;
+        before = λ m n p q c. r .before (suc m) (suc n) (omega arith) (omega arith) (farther m n c);
+      })
+      ∙ ap some (places (omega arith) (omega arith)))
     where
-      places : {k l m n : ℕ} → k ≡ m → l ≡ n → Conflict k l ≡ Conflict m n
-      places p q = λ x. Conflict (p x) (q x)
+      farther : (m n : ℕ) → Before m n k l → Before (suc m) (suc n) (suc k) (suc l)
+      farther m n (inl a) = inl (omega arith)
+      farther m n (inr a) = inr (omega (arith, a .0), omega (arith, a .1))

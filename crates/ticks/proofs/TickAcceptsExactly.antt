@@ -6,9 +6,8 @@ use mathlib.Core.Path.{_≡_, refl, sym, ap, subst, subst⁻¹, _∙_}
 use mathlib.Core.Logic.{_↔_}
 use mathlib.Core.Bool.{true}
 use mathlib.Core.List.{List, [], _∷_, _++_, map}
-use mathlib.Core.Option.{Option, none}
+use mathlib.Core.Option.{none}
 use lib.ListN.{length, drop, length-take, length-drop}
-use borrow.Author.Tests.{eq-eqb, le-ltb}
 use Rattle.base.specs.Lists.{parts}
 use Rattle.base.specs.Grounds.{refusal}
 use Rattle.base.proofs.Orders.{All}
@@ -25,7 +24,8 @@ use Rattle.events.specs.declared.Outcome.{Outcome}
 use Rattle.events.specs.Records.{decoded, records}
 use Rattle.events.specs.Grounds.{Accepted}
 use Rattle.events.specs.Effects.{value, after}
-use Rattle.events.specs.Steps.{unless, inner-step, record-step, step}
+use Rattle.events.specs.Steps.{inner-step, record-step, step}
+use Rattle.events.proofs.TakenSteps.{inner-is}
 use Rattle.events.proofs.SoundStays.{Right, sound-stays-sound, shaped-stays-shaped, step-is}
 use Rattle.ticks.specs.declared.TickAnswer.{TickAnswer}
 use Rattle.ticks.specs.declared.TickAnswer.the-variants as tick-answer
@@ -33,6 +33,7 @@ use Rattle.ticks.specs.Ticks.{known, end-of, values-of, Ticked, ticked, 
 use Rattle.ticks.proofs.OrderCannotMatter.{Played, at-end, one-more, Agreeing, in-listed-order, order-cannot-matter}
 use Rattle.ticks.proofs.Reordered.{Reordered}
 use Rattle.ticks.proofs.Searches.{refuses-none}
+use Rattle.ticks.proofs.TickGrounds.{no-tick-ground}
 use Rattle.ticks.proofs.Verdicts.{alone, tick-is-by, plays-by, Verdict, at-once, refused, conflicts, accepted, verdict}
 
 -- ---- single steps, one after the other
@@ -44,19 +45,11 @@ pub data Stepped {A : Type 0} (by : State → A → Outcome) : State → List A 
       → Stepped by ((by s a) .state) l vs u → Stepped by s (a ∷ l) (v ∷ vs) u
 
 -- in a sound state each input steps as its event does
-abbrev StepLike : {A : Type 0} → (State → A → Outcome) → List A → List Event → Type 0
+abbrev pub StepLike : {A : Type 0} → (State → A → Outcome) → List A → List Event → Type 0
 StepLike by [] [] = Unit {0}
 StepLike by [] (e ∷ es) = ⊥
 StepLike by (a ∷ l) [] = ⊥
 StepLike by (a ∷ l) (e ∷ es) = ((s : State) → sound s ≡ true → by s a ≡ inner-step s e) × StepLike by l es
-
--- what an accepted event's step hands back
-abbrev stepped-to : State → Event → Outcome
-stepped-to s e = record { answer = step-answer.Accepted (value (view s) e); state = pack (after (view s) e) }
-
-inner-is : (s : State) (e : Event) → Accepted (view s) e → inner-step s e ≡ stepped-to s e
-unfolding inner-step
-inner-is s e ok = ap (λ (o : Option ℕ). unless o s (stepped-to s e)) ok
 
 module _ {A : Type 0} (by : State → A → Outcome) where
   -- what is played on the lists is stepped on the states
@@ -78,7 +71,7 @@ inner-like : (es : List Event) → StepLike inner-step es es
 inner-like [] = tt
 inner-like (e ∷ es) = (λ s h. refl, inner-like es)
 
-bytes-like : (rs : List (List ℕ)) (es : List Event) → All (λ r. length r ≡ 8) rs → map decoded rs ≡ map Known es → StepLike step rs es
+pub bytes-like : (rs : List (List ℕ)) (es : List Event) → All (λ r. length r ≡ 8) rs → map decoded rs ≡ map Known es → StepLike step rs es
 bytes-like [] [] a q = tt
 bytes-like [] (e ∷ es) a q = let z : _≡_ {A = ℕ} 0 1 = cc in omega arith
 bytes-like (r ∷ rs) [] a q = let z : _≡_ {A = ℕ} 0 1 = cc in omega arith
@@ -88,7 +81,7 @@ bytes-like (r ∷ rs) (e ∷ es) a q =
     (λ s h. step-is s r h (a .0) ∙ ap (record-step s) d, bytes-like rs es (a .1) k)
 
 -- where what is played leads, the state is right again
-stays-right : (s : State) → Shaped s → sound s ≡ true → (es : List Event) (vs : List ℕ) (u : Net) → Played (view s) es vs u → Right (pack u)
+pub stays-right : (s : State) → Shaped s → sound s ≡ true → (es : List Event) (vs : List ℕ) (u : Net) → Played (view s) es vs u → Right (pack u)
 stays-right s w h [] _ _ at-end = subst Right (sound-is-packed s w h) (record { shaped = w; is-sound = h })
 stays-right s w h (e ∷ es) _ u (one-more {vs = vs} ok p) =
     stays-right (pack (after (view s) e)) (shaped-stays-shaped s w h e ok) (sound-stays-sound s w h e ok) es vs u
@@ -114,6 +107,13 @@ pub record Orderly (s : Net) (b : List ℕ) : Type 0 where
   pub known : records b ≡ map Known events
   pub agreeing : Agreeing s events
 
+-- nothing stands against the tick
+pub record Acceptable (s : State) (b out : List ℕ) : Type 0 where
+  -- neither 16 nor 18 nor 17 holds
+  pub no-ground : refusal (tick-grounds s b out) ≡ none
+  -- the records are known events, each is accepted alone and no two conflict
+  pub orderly : Orderly (view s) b
+
 -- where an accepted tick ends
 pub record Ends (s : State) (b out : List ℕ) (es : List Event) : Type 0 where
   -- the values that the events have alone, each at its place; later places as they stood
@@ -128,35 +128,35 @@ pub record Ends (s : State) (b out : List ℕ) (es : List Event) : Type 0 where
   pub by-bytes : Stepped step s (parts (length b / 8) 8 b) (map (value (view s)) es) ((tick s b out) .state)
   pub right : Right ((tick s b out) .state)
 
--- neither 16 nor 18 nor 17 holds
-pub no-tick-ground : (s : State) (b out : List ℕ) → sound s ≡ true → length b % 8 ≡ 0 → length b ≤ 504 → length b / 8 ≤ length out
-    → refusal (tick-grounds s b out) ≡ none
-unfolding tick-grounds
-no-tick-ground s b out h whole few places =
-    rw (h, eq-eqb (length b % 8) 0 whole, le-ltb 504 (length b) few, le-ltb (length out) (length b / 8) places)
+module _ (s : State) (b out : List ℕ) where
+  pub is-ticked : (a : Acceptable s b out) → tick s b out ≡ ticked s out (a .orderly .events)
+  is-ticked a =
+      let o = a .orderly in
+      tick-is-by s b out
+      ∙ plays-by alone ticked s b out (o .events) (a .no-ground) (o .known) (refuses-none (view s) 0 (o .events) (o .agreeing .alone)) (o .agreeing .apart)
 
-orderly-by : (s : State) (b out : List ℕ) (a : TickAnswer) → Verdict s b out a → a ≡ tick-answer.Accepted → Orderly (view s) b
-orderly-by s b out _ (at-once n g) e = let z : _≡_ {A = ℕ} 0 1 = cc in absurd (omega arith)
-orderly-by s b out _ (refused n i g r) e = let z : _≡_ {A = ℕ} 0 1 = cc in absurd (omega arith)
-orderly-by s b out _ (conflicts i j es w r) e = let z : _≡_ {A = ℕ} 0 1 = cc in absurd (omega arith)
-orderly-by s b out _ (accepted es w p) e = record { events = es; known = w .known; agreeing = record { alone = w .alone; apart = p } }
+  pub was-acceptable : (tick s b out) .answer ≡ tick-answer.Accepted → Acceptable s b out
+  was-acceptable = by ((tick s b out) .answer) (verdict s b out)
+    where
+      by : (a : TickAnswer) → Verdict s b out a → a ≡ tick-answer.Accepted → Acceptable s b out
+      by _ (at-once n g) e = let z : _≡_ {A = ℕ} 0 1 = cc in absurd (omega arith)
+      by _ (refused n i g r) e = let z : _≡_ {A = ℕ} 0 1 = cc in absurd (omega arith)
+      by _ (conflicts i j es g w r) e = let z : _≡_ {A = ℕ} 0 1 = cc in absurd (omega arith)
+      by _ (accepted es g w p) e = record { no-ground = g; orderly = record { events = es; known = w .known; agreeing = record { alone = w .alone; apart = p } } }
 
 module _ (s : State) (w : Shaped s) (h : sound s ≡ true) (b out : List ℕ)
     (whole : length b % 8 ≡ 0) (few : length b ≤ 504) (places : length b / 8 ≤ length out) where
-  is-ticked : (o : Orderly (view s) b) → tick s b out ≡ ticked s out (o .events)
-  is-ticked o =
-      tick-is-by s b out
-      ∙ plays-by alone ticked s b out (o .events) (no-tick-ground s b out h whole few places) (o .known)
-      (refuses-none (view s) 0 (o .events) (o .agreeing .alone)) (o .agreeing .apart)
+  abbrev so : Orderly (view s) b → Acceptable s b out
+  so o = record { no-ground = no-tick-ground s b out .1 (record { is-sound = h; whole = whole; few = few; places = places }); orderly = o }
 
   pub tick-accepts-exactly : ((tick s b out) .answer ≡ tick-answer.Accepted) ↔ Orderly (view s) b
-  tick-accepts-exactly = (orderly-by s b out ((tick s b out) .answer) (verdict s b out), λ o. ap (λ (t : Ticked). t .answer) (is-ticked o))
+  tick-accepts-exactly = (λ k. was-acceptable s b out k .orderly, λ o. ap (λ (t : Ticked). t .answer) (is-ticked s b out (so o)))
 
   pub tick-ends : (o : Orderly (view s) b) → Ends s b out (o .events)
   unfolding records
   tick-ends o =
       let es = o .events in
-      let t = is-ticked o in
+      let t = is-ticked s b out (so o) in
       let vs = map (value (view s)) es in
       let u = end-of (view s) es in
       let passed = sound-is-good s w h .rules .passes in

@@ -71,8 +71,10 @@ pub record AllAlone (s : Net) (ds : List Decoded) (es : List Event) : Type 0 whe
 pub data Verdict (s : State) (b out : List ℕ) : TickAnswer → Type 0 where
   at-once : (n : ℕ) → refusal (tick-grounds s b out) ≡ some n → Verdict s b out (Refused n 0)
   refused : (n i : ℕ) → refusal (tick-grounds s b out) ≡ none → LowestRefused (view s) (records b) n i → Verdict s b out (Refused n i)
-  conflicts : (i j : ℕ) (es : List Event) → AllAlone (view s) (records b) es → ((d : Event) → LowestPair (view s) d es i j) → Verdict s b out (Conflict i j)
-  accepted : (es : List Event) → AllAlone (view s) (records b) es → Pairwise (λ e f. conflict (view s) e f ≡ false) es → Verdict s b out tick-answer.Accepted
+  conflicts : (i j : ℕ) (es : List Event) → refusal (tick-grounds s b out) ≡ none → AllAlone (view s) (records b) es → ((d : Event) → LowestPair (view s) d es i j)
+      → Verdict s b out (Conflict i j)
+  accepted : (es : List Event) → refusal (tick-grounds s b out) ≡ none → AllAlone (view s) (records b) es → Pairwise (λ e f. conflict (view s) e f ≡ false) es
+      → Verdict s b out tick-answer.Accepted
 
 -- where no record is refused alone
 none-found : (s : Net) (ds : List Decoded) → first-refused s 0 ds ≡ none → (es : List Event) × AllAlone s ds es × (known ds ≡ es)
@@ -101,16 +103,18 @@ module _ (s : State) (b out : List ℕ) where
       let r = finds-refused (view s) 0 (records b) a h in
       subst⁻¹ (Verdict s b out) (r .2 ∙ ap (Refused (r .0)) (omega arith)) (refused (r .0) (r .1) g (r .3))
 
-  conflict-found : (a : TickAnswer) → first-refused (view s) 0 (records b) ≡ none → first-pair (view s) 0 (known (records b)) ≡ some a → Verdict s b out a
-  conflict-found a n h =
+  conflict-found : (a : TickAnswer) → refusal (tick-grounds s b out) ≡ none → first-refused (view s) 0 (records b) ≡ none
+      → first-pair (view s) 0 (known (records b)) ≡ some a → Verdict s b out a
+  conflict-found a g n h =
       let w = none-found (view s) (records b) n in
       let r = pair-found (view s) (w .0) a (rw (w .2) at h) in
-      subst⁻¹ (Verdict s b out) (r .2) (conflicts (r .0) (r .1) (w .0) (w .1) (r .3))
+      subst⁻¹ (Verdict s b out) (r .2) (conflicts (r .0) (r .1) (w .0) g (w .1) (r .3))
 
-  nothing-found : first-refused (view s) 0 (records b) ≡ none → first-pair (view s) 0 (known (records b)) ≡ none → Verdict s b out tick-answer.Accepted
-  nothing-found n h =
+  nothing-found : refusal (tick-grounds s b out) ≡ none → first-refused (view s) 0 (records b) ≡ none → first-pair (view s) 0 (known (records b)) ≡ none
+      → Verdict s b out tick-answer.Accepted
+  nothing-found g n h =
       let w = none-found (view s) (records b) n in
-      accepted (w .0) (w .1) (pair-none (view s) 0 (w .0) .0 (rw (w .2) at h))
+      accepted (w .0) g (w .1) (pair-none (view s) 0 (w .0) .0 (rw (w .2) at h))
 
   pub verdict : Verdict s b out ((tick s b out) .answer)
   unfolding tick-by
@@ -119,7 +123,7 @@ module _ (s : State) (b out : List ℕ) where
       (there (refusal (tick-grounds s b out))
       (λ g. there (first-refused (view s) 0 (records b))
       (λ n. there (first-pair (view s) 0 (known (records b)))
-      (λ m. rw (g, tick-by) (rw n (rw m (nothing-found n m))))
-      (λ a m. rw (g, tick-by) (rw n (rw m (conflict-found a n m)))))
+      (λ m. rw (g, tick-by) (rw n (rw m (nothing-found g n m))))
+      (λ a m. rw (g, tick-by) (rw n (rw m (conflict-found a g n m)))))
       (λ a n. rw (g, tick-by) (rw n (refused-found a g n))))
       (λ m g. rw (g, tick-by) (at-once m g)))
