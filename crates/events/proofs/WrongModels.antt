@@ -110,6 +110,7 @@ refused-accepted n v e = let z : _≡_ {A = ℕ} 0 1 = cc in omega arith
 pub refusing : RefusesEverything (λ s b. record { answer = answer.Refused 1; state = s })
 refusing s b w = (1, refl)
 
+-- refuted at one state; `first-begins-are-accepted` (FirstBegins) says on every table what is accepted, `no-ground-accepts` (RefusedExactly) in every state
 pub no-model-refuses-everything : (f : Model) → MeetsStep f → RefusesEverything f → ⊥
 no-model-refuses-everything f m r =
     let n = r at-rest posts first in
@@ -120,6 +121,7 @@ no-model-refuses-everything f m r =
 abbrev pub HasOneReply : Model → Type 0
 HasOneReply f = (a : Answer) × ((s : State) (b : List ℕ) → Handed s b → (f s b) .answer ≡ a)
 
+-- refuted at two inputs; `a-ground-refuses` and `no-ground-accepts` (RefusedExactly) say for every input which reply it has
 pub no-model-has-one-reply : (f : Model) → MeetsStep f → HasOneReply f → ⊥
 no-model-has-one-reply f m r =
     refused-accepted 18 1 (sym (answers f m .1) ∙ r .1 at-rest [] second ∙ sym (r .1 at-rest posts first) ∙ answers f m .0)
@@ -142,6 +144,7 @@ MovesNothing f = (s : State) (b : List ℕ) (v : ℕ) → Handed s b → (f s b)
 pub standing-still : MovesNothing (λ s b. record { answer = (step s b) .answer; state = s })
 standing-still s b v w h = refl
 
+-- refuted at one state; `every-accepted-step-moves` (EveryStepMoves) says it of every state and every record
 pub no-model-moves-nothing : (f : Model) → MeetsStep f → MovesNothing f → ⊥
 no-model-moves-nothing f m r =
     let k = ap in-channel-0 (r at-rest posts 1 first (answers f m .0)) in

@@ -102,6 +102,7 @@ module _ (s : State) (w : Shaped s) (b out : List ℕ) (ok : (tick s b out) .ans
 
 -- ---- in any order
 
+-- the tick of b is accepted, so s is sound; c is whole records, with a place for each
 module _ (s : State) (w : Shaped s) (b c out other : List ℕ) (ok : (tick s b out) .answer ≡ tick-answer.Accepted)
     (whole : length c % 8 ≡ 0) (places : length c / 8 ≤ length other) where
   pub in-any-order : Order (eights b) (eights c) → InAnyOrder s b c out other

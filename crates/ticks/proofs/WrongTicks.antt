@@ -204,6 +204,7 @@ lent x c =
 
 -- ---- shut out
 
+-- refuted at one input; `tick-ends` (TickAcceptsExactly) says of every accepted tick that its end is where all its events lead
 pub no-tick-nods : (g : Tick) → MeetsTick g → Nods g → ⊥
 no-tick-nods g m n =
     let x = begin-and-post in
@@ -215,6 +216,7 @@ no-tick-nods g m n =
     let z : _≡_ {A = ℕ} 1 0 = sym (computed .post-moves) ∙ sym e ∙ ap in-channel-2 k ∙ computed .begin-does-not in
     omega arith
 
+-- refuted at one input; `the-lowest-record-refuses` (RefusedTicks) says of every tick that its records are judged in the state it starts in
 pub no-tick-judges-on-the-way : (g : Tick) → MeetsTick g → JudgesOnTheWay g → ⊥
 no-tick-judges-on-the-way g m n =
     let x = two-posts in
