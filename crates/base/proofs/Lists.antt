@@ -1,13 +1,13 @@
--- Laws of lists: what all pass, one of them passes; what is found passes; what is put behind others of another sort is not counted; what comes first of two sorts.
+-- Laws of lists: what all pass, one of them passes; what is found passes; what is put behind others of another sort is not counted.
 use Prim.Native.Nat.{ℕ, zero, suc, _<_}
 use mathlib.Core.Path.{_≡_, refl, ap, subst}
 use mathlib.Core.Option.{Option, none, some}
-use mathlib.Core.Bool.{Bool, true, false, not, _||_}
+use mathlib.Core.Bool.{Bool, true, false}
 use mathlib.Core.List.{List, [], _∷_, _++_}
 use native.Mathlib.Omega.{arith}
 use lib.ListN.{getD, take}
-use Rattle.base.specs.Lists.{all, find, count, is-some, passes}
-use Rattle.base.proofs.Logic.{split, there, and-true, both, none-some}
+use Rattle.base.specs.Lists.{all, find, count, is-some}
+use Rattle.base.proofs.Logic.{split, and-true, both, none-some}
 
 module _ {A : Type 0} where
   -- one of the first n, where a place that is not there passes too
@@ -32,17 +32,11 @@ module _ {A : Type 0} where
   count-past p [] x vs h = rw h
   count-past p (u ∷ us) x vs h = split (p u) (λ t. rw t (ap suc (count-past p us x vs h))) (λ f. rw f (count-past p us x vs h))
 
-  -- something that passes p comes before all that pass q: one that does not pass q decides it, or is passed over; one that passes q ends the search
-  module _ (p q : A → Bool) (x : A) (l : List A) where
-    pub ahead-past : q x ≡ false → not (passes q (find (λ y. p y || q y) (x ∷ l))) ≡ (p x || not (passes q (find (λ y. p y || q y) l)))
-    unfolding find
-    ahead-past h = split (p x) (λ y. rw (y, h)) (λ n. rw (n, h))
-
-    pub ahead-here : q x ≡ true → not (passes q (find (λ y. p y || q y) (x ∷ l))) ≡ false
-    unfolding find
-    ahead-here h = split (p x) (λ y. rw (y, h)) (λ n. rw (n, h, h))
-
-  -- what is there
+  -- what is there, and what is not
   pub is-there : (o : Option A) → is-some o ≡ true → (x : A) × (o ≡ some x)
   is-there none h = absurd (both false h refl)
   is-there (some x) h = (x, refl)
+
+  pub is-none : (o : Option A) → is-some o ≡ false → o ≡ none
+  is-none none h = refl
+  is-none (some x) h = absurd (both true refl h)

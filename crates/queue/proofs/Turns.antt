@@ -3,7 +3,7 @@
 use Prim.Native.Nat.{ℕ, _+_, _≤_, _<_, min}
 use native.Mathlib.Omega.{arith}
 use mathlib.Core.Path.{_≡_, refl, _∙_}
-use mathlib.Core.Bool.{Bool, true, false, cond, _||_}
+use mathlib.Core.Bool.{Bool, true, false, cond}
 use mathlib.Core.List.{List, [], _∷_}
 use lib.ListN.{length, getD, drop, length-take}
 use Rattle.base.specs.Lists.{find}
@@ -15,7 +15,7 @@ use Rattle.queue.specs.declared.Look.{Look}
 use Rattle.queue.specs.Entries.{P, zero-entry, is-kind, is-named}
 use Rattle.queue.specs.Queues.{behind-P}
 use Rattle.queue.specs.Packing.{live}
-use Rattle.queue.specs.code.Changes.{look-of}
+use Rattle.queue.specs.code.Changes.{look-of, dull}
 use Rattle.queue.proofs.Plainly.{behind-P-here, behind-P-past}
 
 -- before place i: g of what is left, from here on, is the whole
@@ -39,7 +39,7 @@ module _ {B : Type 0} {g : ℕ → List Entry → B} {c : Channel} {i : ℕ} {w 
 
 -- a look goes on behind those that were passed, where b says whether a P was among them
 abbrev pub seen : Bool → Look → Look
-seen b k = record { found = k .found; behind = b || k .behind; entry = k .entry }
+seen b k = record { found = k .found; behind = cond b (k .found) (k .behind); entry = k .entry }
 
 module _ (k : ℕ) (t : Transaction) where
   pub look-here : (b : Bool) (x : Entry) (l : List Entry) → is-named k t x ≡ true → record { found = true; behind = b; entry = x } ≡ seen b (look-of k t (x ∷ l))
@@ -55,7 +55,7 @@ module _ (k : ℕ) (t : Transaction) where
   look-past false b′ true x l h y w = rw (h, behind-P-past k t x l h, y, w)
   look-past false b′ false x l h y w = rw (h, behind-P-past k t x l h, y, w)
 
-  pub look-none : (b : Bool) → record { found = false; behind = true; entry = zero-entry } ≡ seen b (look-of k t [])
+  pub look-none : (b : Bool) → dull ≡ seen b (look-of k t [])
   unfolding look-of behind-P find
   look-none true = refl
   look-none false = refl

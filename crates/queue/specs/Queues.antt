@@ -1,6 +1,6 @@
 -- The entries of a channel, oldest first.
 use Prim.Native.Nat.{ℕ}
-use mathlib.Core.Bool.{Bool, not, _||_}
+use mathlib.Core.Bool.{Bool, not, _&&_, _||_}
 use mathlib.Core.List.{List}
 use mathlib.Core.Option.{Option}
 use lib.Dec.{leb}
@@ -20,9 +20,9 @@ stands k t l = is-some (oldest k t l)
 abbrev pub the : ℕ → Transaction → List Entry → Entry
 the k t l = or-else zero-entry (oldest k t l)
 
--- an older P stands before it: going from the oldest, a P that is not it comes first
+-- an older P stands before it: it is there and, going from the oldest, a P that is not it comes first
 unfoldable pub behind-P : ℕ → Transaction → List Entry → Bool
-behind-P k t l = not (passes (is-named k t) (find (λ x. is-kind P x || is-named k t x) l))
+behind-P k t l = stands k t l && not (passes (is-named k t) (find (λ x. is-kind P x || is-named k t x) l))
 
 -- it is the oldest C of all
 unfoldable pub first-C : Transaction → List Entry → Bool

@@ -7,7 +7,7 @@ ghost use Rattle.base.specs.Lists.{all};
 ghost use Rattle.queue.specs.Entries.{zero-entry, is-kind, is-named, marked, as-kind, is-zero-entry};
 ghost use Rattle.queue.specs.Queues.{filling, first-C};
 ghost use Rattle.queue.specs.Packing.{live, zero-channel};
-ghost use Rattle.queue.specs.code.Changes.{look-of};
+ghost use Rattle.queue.specs.code.Changes.{look-of, dull};
 ghost use Rattle.queue.specs.code.Methods.{place-of, added-to, removed-at, marked-at, changed-to};
 
 // A transaction is named by its master and a number.
@@ -132,6 +132,19 @@ impl Entry {
     }
 }
 
+impl Look {
+    // What is told of an entry that is not there.
+    pub fn dull() -> Look
+        ensures { λ r. ⌜ r ≡ dull ⌝ }
+    {
+        Look {
+            found: false,
+            behind: false,
+            entry: Entry::none(),
+        }
+    }
+}
+
 // How many places a walk goes through: a channel that is not sound may claim more entries than it has places.
 fn places(count: usize) -> usize
     ensures { λ r. ⌜ r ≡ min count 24 ⌝ }
@@ -173,8 +186,7 @@ impl Channel {
         Found::Nothing
     }
 
-    // One walk: a P that is passed before the entry is older than it. Where the entry does not stand there, `behind` is
-    // true, since none that comes first is it.
+    // One walk: a P that is passed before the entry is older than it.
     pub fn looked(self, kind: u8, t: Transaction) -> Look
         ensures { λ r. ⌜ r ≡ look-of kind t (live self) ⌝ }
     {
@@ -195,12 +207,7 @@ impl Channel {
             }
             i += 1;
         }
-        let z = Entry::none();
-        Look {
-            found: false,
-            behind: true,
-            entry: z,
-        }
+        Look::dull()
     }
 
     // Each kind is counted by itself.

@@ -10,9 +10,9 @@ use Rattle.chassis.specs.Numbers.{agent, chan, same-agent}
 use Rattle.chassis.specs.Channels.{has-agent, has-chan, is-master, master-channel, opposite}
 use Rattle.queue.specs.declared.Transaction.{Transaction}
 use Rattle.queue.specs.declared.Look.{Look}
-use Rattle.queue.specs.Entries.{P, R, C, zero-entry}
+use Rattle.queue.specs.Entries.{P, R, C}
 use Rattle.queue.specs.Queues.{stands}
-use Rattle.queue.specs.code.Changes.{look-of}
+use Rattle.queue.specs.code.Changes.{look-of, dull}
 use Rattle.network.specs.Nets.{Net, waiting, full}
 use Rattle.events.specs.declared.Event.{Event}
 use Rattle.events.specs.declared.Event.the-variants.{BeginPosted, BeginRead, BeginWrite, Commit, Post, Latch, Complete, DropRequest, DropCompletion}
@@ -82,9 +82,6 @@ unfoldable pub back-or : Table → Chan → Chan
 back-or T N = cond (is-master T N) N (opposite T N)
 
 -- ---- what a judge is told
-
-abbrev pub dull : Look
-dull = record { found = false; behind = false; entry = zero-entry }
 
 abbrev pub sees-full : Bool → Sight
 sees-full b = record { full = b; waits = false; answer = dull; oldest = false }

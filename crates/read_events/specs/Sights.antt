@@ -14,12 +14,12 @@ use Rattle.queue.specs.declared.Entry.{Entry}
 use Rattle.queue.specs.declared.Look.{Look}
 use Rattle.queue.specs.Entries.{P, R, C}
 use Rattle.queue.specs.Queues.{stands, first-C, at-limit}
-use Rattle.queue.specs.code.Changes.{look-of}
+use Rattle.queue.specs.code.Changes.{look-of, dull}
 use Rattle.events.specs.declared.Event.{Event}
 use Rattle.events.specs.declared.Event.the-variants.{BeginPosted, BeginRead, BeginWrite, Commit, Post, Latch, Complete, DropRequest, DropCompletion}
 use Rattle.events.specs.Accounts.{account}
 use Rattle.read_events.specs.declared.Sight.{Sight}
-use Rattle.read_events.specs.Frames.{dull, sees-full}
+use Rattle.read_events.specs.Frames.{sees-full}
 
 -- the next place, where the kind asks for it and the entry is there
 abbrev pub next-told : Table → Event → Chan → Look → NextPlace

@@ -7,7 +7,6 @@ use chassis::channels::is_master;
 use chassis::channels::opposite;
 use events::Event;
 use queue::Channel;
-use queue::Entry;
 use queue::Look;
 use queue::Transaction;
 ghost use mathlib.Core.Path.{_≡_};
@@ -15,8 +14,8 @@ ghost use mathlib.Core.Bool.{false};
 ghost use Prim.Native.Nat.{_<_, _≤_};
 ghost use Rattle.queue.specs.Packing.{live};
 ghost use Rattle.queue.specs.Queues.{stands, first-C};
-ghost use Rattle.queue.specs.code.Changes.{look-of};
-ghost use Rattle.read_events.specs.Frames.{ahead-or, answer-or, back-or, dull, sees-full};
+ghost use Rattle.queue.specs.code.Changes.{look-of, dull};
+ghost use Rattle.read_events.specs.Frames.{ahead-or, answer-or, back-or, sees-full};
 ghost use Rattle.read_events.specs.Sights.{small};
 ghost use Rattle.read_events.specs.Sights.{if-channel, look-if, full-in, full-back, sight-told};
 
@@ -80,23 +79,13 @@ fn full_back(t: Table, n: Chan, c: Channel) -> bool
     full_in(t, 3, c)
 }
 
-fn dull() -> Look
-    ensures { λ r. ⌜ r ≡ dull ⌝ }
-{
-    Look {
-        found: false,
-        behind: false,
-        entry: Entry::none(),
-    }
-}
-
 fn sees_full(full: bool) -> Sight
     ensures { λ r. ⌜ r ≡ sees-full full ⌝ }
 {
     Sight {
         full,
         waits: false,
-        answer: dull(),
+        answer: Look::dull(),
         oldest: false,
     }
 }
@@ -106,7 +95,7 @@ fn look_back(next: NextPlace, x: Transaction, c: Channel) -> Look
     ensures { λ r. ⌜ r ≡ look-if next (look-of 3 x (live c)) ⌝ }
 {
     match next {
-        NextPlace::Target => dull(),
+        NextPlace::Target => Look::dull(),
         NextPlace::Through(_) => c.looked(3, x),
     }
 }
@@ -165,7 +154,7 @@ fn sight_drop(x: Transaction, here: Channel) -> Sight
     Sight {
         full: false,
         waits: false,
-        answer: dull(),
+        answer: Look::dull(),
         oldest,
     }
 }

@@ -29,7 +29,7 @@ use Rattle.network.specs.Nets.{Net, waiting}
 use Rattle.network.specs.Edits.{change}
 use Rattle.events.specs.declared.Event.{Event}
 use Rattle.events.specs.declared.Event.the-variants.{BeginPosted, BeginRead, BeginWrite, Commit, Post, Latch, Complete, DropRequest, DropCompletion}
-use Rattle.events.specs.Tests.{entry-at, ahead, is-target, answer-full, is-oldest-C}
+use Rattle.events.specs.Tests.{entry-at, ahead, is-target, answer-full, no-such-entry, is-oldest-C}
 use Rattle.events.specs.Grounds.{named-grounds, grounds, Accepted}
 use Rattle.events.specs.Effects.{leaves, is-marked, enters, answer-taken, answer-given, effects, value}
 use Rattle.ticks.specs.Footings.{Footing, occurs-on, drops-the, the-R, taken-from, footing}
@@ -59,9 +59,13 @@ module _ (s : Net) (N : Chan) (t : Transaction) where
   unfolding named-grounds
   named-more k more c = c .1 .1
 
-  named-found : (k : ℕ) (more : List Ground) → Clear (named-grounds s k N t more) → (x : Entry) × (oldest k t (waiting s N) ≡ some x)
+  -- 6 does not hold
+  named-six : (k : ℕ) (more : List Ground) → Clear (named-grounds s k N t more) → no-such-entry s k N t ≡ false
   unfolding named-grounds
-  named-found k more c = is-there (oldest k t (waiting s N)) (not-false _ (c .1 .0))
+  named-six k more c = c .1 .0
+
+  named-found : (k : ℕ) (more : List Ground) → Clear (named-grounds s k N t more) → (x : Entry) × (oldest k t (waiting s N) ≡ some x)
+  named-found k more c = is-there (oldest k t (waiting s N)) (not-false _ (named-six k more c))
 
   -- the next place is the entry's
   ahead-is : (k : ℕ) (u : Net) (x : Entry) → u .table ≡ s .table → oldest k t (waiting u N) ≡ some x → ahead u k N t ≡ next-place (s .table) N (x .target)
@@ -97,7 +101,7 @@ module _ (s : Net) (N : Chan) (t : Transaction) where
   commit-account ok =
       let c = clear (grounds s (Commit N t)) ok in
       let d = named-more R _ c in
-      let r = not-behind R N t s (d .1 .0) in
+      let r = not-behind R N t s (named-six R _ c) (d .1 .0) in
       let x = r .0 in
       record {
         deeds = (is-marked N t, x) ∷ [];
@@ -121,7 +125,7 @@ module _ (s : Net) (N : Chan) (t : Transaction) where
     post-account ok =
         let c = clear (grounds s (Post N t)) ok in
         let d = named-more P _ c in
-        let r = not-behind P N t s (d .0) in
+        let r = not-behind P N t s (named-six P _ c) (d .0) in
         let x = r .0 in
         let N1 = next-place (s .table) N (x .target) in
         let e = occurs-on (out-bus (s .table) N) none none in
@@ -150,7 +154,7 @@ module _ (s : Net) (N : Chan) (t : Transaction) where
     latch-account ok =
         let c = clear (grounds s (Latch N t)) ok in
         let d = named-more R _ c in
-        let r = not-behind R N t s (d .1 .0) in
+        let r = not-behind R N t s (named-six R _ c) (d .1 .0) in
         let x = r .0 in
         let n = goes-through (next-place (s .table) N (x .target)) (rw (ahead-is R s x refl (r .1 .found)) at (d .0)) in
         let X = n .0 in
@@ -245,7 +249,7 @@ module _ (s : Net) (N : Chan) (t : Transaction) where
     complete-account ok =
         let c = clear (grounds s (Complete N t)) ok in
         let d = named-more R _ c in
-        let r = not-behind R N t s (d .0) in
+        let r = not-behind R N t s (named-six R _ c) (d .0) in
         let x = r .0 in
         let N1 = next-place (s .table) N (x .target) in
         let b = is-master (s .table) N in

@@ -9,9 +9,9 @@ use mathlib.Core.Bool.{Bool, true, false, not, _&&_, _||_}
 use mathlib.Core.Option.{Option, none, some}
 use lib.Dec.{leb}
 use borrow.Author.Tests.{leb-false, lt-leb, not-false}
-use Rattle.base.specs.Lists.{find, is-some, passes}
+use Rattle.base.specs.Lists.{find, passes}
 use Rattle.base.proofs.Logic.{split, both, or-false, none-some}
-use Rattle.base.proofs.Lists.{found-passes, is-there}
+use Rattle.base.proofs.Lists.{found-passes, is-there, is-none}
 use Rattle.base.proofs.Orders.{All, all-append, all-parts}
 use Rattle.chassis.specs.declared.Agent.{Agent}
 use Rattle.chassis.specs.declared.Chan.{Chan}
@@ -29,7 +29,7 @@ use Rattle.queue.specs.Entries.{P, R, C, is-kind, is-named, marked, as-kind, ze
 use Rattle.queue.specs.Queues.{oldest, stands, behind-P, filling}
 use Rattle.network.specs.Nets.{Net, waiting, begun, full}
 use Rattle.network.specs.Edits.{add, change, raise}
-use Rattle.events.specs.Tests.{entry-at, full-ahead, answer-full, behind-a-P, answered, latched-already, unanswered, read-answer-behind-P}
+use Rattle.events.specs.Tests.{entry-at, full-ahead, answer-full, no-such-entry, behind-a-P, answered, latched-already, unanswered, read-answer-behind-P}
 use Rattle.events.specs.Effects.{leaves}
 use Rattle.ticks.specs.Footings.{Name, Footing}
 use Rattle.ticks.proofs.Guards.{Guard, has, absent, room, counted, Holds, Deed, Ready}
@@ -104,15 +104,16 @@ module _ (k : ℕ) (N : Chan) (t : Transaction) where
   named-by : (s : Net) (x : Entry) → find (P-or (is-named k t)) (waiting s N) ≡ some x → is-named k t x ≡ true → Named s k N t x
   named-by s x h n = record { first = h; named = n; found = unblocked (is-named k t) (waiting s N) x h n }
 
-  pub not-behind : (s : Net) → behind-a-P s k N t ≡ false → (x : Entry) × Named s k N t x
+  pub not-behind : (s : Net) → no-such-entry s k N t ≡ false → behind-a-P s k N t ≡ false → (x : Entry) × Named s k N t x
   unfolding behind-P
-  not-behind s h =
-      let q = passing (is-named k t) (find (P-or (is-named k t)) (waiting s N)) h in
+  not-behind s there h =
+      let here : stands k t (waiting s N) ≡ true = not-false (stands k t (waiting s N)) there in
+      let q = passing (is-named k t) (find (P-or (is-named k t)) (waiting s N)) (rw here at h) in
       (q .0, named-by s (q .0) (q .1) (q .2))
 
   pub still-not-behind : (s : Net) (x : Entry) → Named s k N t x → behind-a-P s k N t ≡ false
   unfolding behind-P
-  still-not-behind s x a = rw (a .first) (rw (a .named))
+  still-not-behind s x a = rw (a .found, a .first, a .named)
 
   abbrev name : Name
   name = record { channel = N; kind = k; transaction = t }
@@ -193,10 +194,6 @@ giving T false N x = adding (opposite T N) (as-kind C x)
 
 -- ---- nothing of the transaction is at N1 yet, nor comes back from there
 
-is-none : (o : Option Entry) → is-some o ≡ false → o ≡ none
-is-none none h = refl
-is-none (some x) h = absurd (both true refl h)
-
 pub free-piece : (s : Net) (e : Footing) (t : Transaction) (X : Chan) → Gives s e X → opposite (s .table) (opposite (s .table) X) ≡ X
     → latched-already s t (Through X) ≡ false → Piece s e [] (λ u. latched-already u t (Through X) ≡ false)
 free-piece s e t X v back h =
@@ -228,7 +225,7 @@ and-not false b h = refl
 module _ (t : Transaction) where
   -- neither 12 nor 14 holds of the opposite Y of N1
   pub record Takes (s : Net) (Y : Chan) : Type 0 where
-    pub there : not (stands C t (waiting s Y)) ≡ false
+    pub there : no-such-entry s C Y t ≡ false
     pub in-turn : (not ((entry-at s C Y t) .write) && behind-a-P s C Y t) ≡ false
 
   -- it, and what is left to be said of it
@@ -250,7 +247,7 @@ module _ (t : Transaction) where
         piece = so s e (found-piece C Y t s e (q .0) v (q .1)) (λ u _ k. record { there = rw k; in-turn = rw (k, w) });
       })
       (λ w.
-      let r = not-behind C Y t s (rw (q .1, w) at (h .in-turn)) in
+      let r = not-behind C Y t s (h .there) (rw (q .1, w) at (h .in-turn)) in
       record {
         entry = r .0;
         named = r .1 .named;

@@ -60,13 +60,13 @@ loop-again c =
     (λ w. further (l .inv) (search needs) (λ m. look-past (a .kind) (a .t) (l .behind) _ false x m named (sym (c .before .is-kind .ensures) ∙ w .0 .left) (w .1)))
     (c .if2 .came)
 
-none-requires : tie.Need-none-requires Inv-loop μ-loop
-none-requires c κs = search needs
+dull-requires : tie.Need-dull-requires Inv-loop μ-loop
+dull-requires c κs = search needs
 
 returns-2 : tie.Need-returns-2 Inv-loop μ-loop
 returns-2 c =
     let l = c .before .before .loop in
-    rw (c .none .ensures) (look-none _ _ (l .behind) ∙ over (l .inv) (search needs))
+    c .dull .ensures ∙ look-none _ _ (l .behind) ∙ over (l .inv) (search needs)
 
 pub looked-spec : {M : Type 1} → statement M
 looked-spec =
@@ -84,5 +84,5 @@ looked-spec =
     add-i
     loop-less
     loop-again
-    none-requires
+    dull-requires
     returns-2)

@@ -1,8 +1,8 @@
--- `dull` tells what its definition tells.
--- The idea: each arm is a case of the definition, and the callees say the rest.
+-- `Look::dull` is the look of an entry that is not there.
+-- Its entry is what `Entry::none` gives.
 use borrow.Author.Needs.{needs}
-use Rattle.read_events.proofs.sights.dull.Statement.{statement}
-use Rattle.read_events.proofs.sights.dull.Tie as tie
+use Rattle.queue.proofs.Look.dull.Statement.{statement}
+use Rattle.queue.proofs.Look.dull.Tie as tie
 
 none-requires : tie.Need-none-requires
 none-requires c κs = search needs
