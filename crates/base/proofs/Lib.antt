@@ -5,6 +5,7 @@ pub mod Cases
 pub mod Lists
 pub mod Cells
 pub mod Queues
+pub mod Totals
 pub mod Walks
 pub mod Orders
 pub mod Padded

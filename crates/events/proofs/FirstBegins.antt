@@ -21,7 +21,7 @@ use Rattle.chassis.specs.Tables.{table-passes, within}
 use Rattle.chassis.proofs.Counts.{counts}
 use Rattle.chassis.proofs.Passing.{passed}
 use Rattle.queue.specs.Entries.{P, R}
-use Rattle.queue.specs.Queues.{at-limit, filling}
+use Rattle.network.specs.Rooms.{room-for, is-full}
 use Rattle.network.specs.Nets.{Net, view, pack, empty-net, full}
 use Rattle.network.proofs.Packing.{view-pack, empty-waits, empty-begun}
 use Rattle.network.proofs.Good.{Arrays, empty-is-sound, empty-is-shaped}
@@ -51,9 +51,9 @@ module _ (T : Table) (w : Arrays T) (passes : table-passes T ≡ true) where
       let c = counts T (passed T passes .counts) .limits in
       leb-true 1 (limit T k) (and-true (leb 1 (limit T k)) (leb (limit T k) 8) (each (within 1 8) (T .limits) (k - 1) (omega (arith, w .limits)) c) .0)
 
-  room : (k : ℕ) (m : Agent) → k - 1 < 3 → full (empty-net T) k (master-channel m) ≡ false
-  unfolding filling count empty-net
-  room k m h = ap (at-limit (limit T k) k) (empty-waits T (master-channel m)) ∙ lt-leb (limit T k) 0 (omega (arith, at-least-1 k h))
+  room : (k : ℕ) (m : Agent) → k - 1 < 3 → full (empty-net T) k m (master-channel m) ≡ false
+  unfolding count empty-net room-for
+  room k m h = ap (is-full (room-for T k m)) (empty-waits T (master-channel m)) ∙ lt-leb (limit T k) 0 (omega (arith, at-least-1 k h))
 
   module _ (m a : Agent) (hm : has-agent T m ≡ true) (ha : has-agent T a ≡ true) (d : same-agent m a ≡ false) where
     no-ground : (k : ℕ) → k - 1 < 3 → refusal (begin-grounds (empty-net T) k m a) ≡ none

@@ -35,7 +35,7 @@ use Rattle.network.specs.Soundness.{stands-right}
 use Rattle.network.proofs.Rules.{Fit}
 use Rattle.network.proofs.Fits.{fit-next, fit-copy, fit-answer}
 use Rattle.network.proofs.Good.{Good}
-use Rattle.network.proofs.Kept.{Room, not-full, good-add, Tame, good-change, room-stays, tame-gone, tame-marking, good-raise}
+use Rattle.network.proofs.Kept.{HasRoom, not-full, good-add, Tame, good-change, room-stays, tame-gone, tame-marking, good-raise}
 use Rattle.events.specs.declared.Event.{Event}
 use Rattle.events.specs.declared.Event.the-variants.{BeginPosted, BeginRead, BeginWrite, Commit, Post, Latch, Complete, DropRequest, DropCompletion}
 use Rattle.events.specs.Tests.{entry-at, ahead, full-ahead, answer-full, no-such-entry}
@@ -46,7 +46,7 @@ use Rattle.events.specs.Effects.{next-number, new-entry, begins, leaves,
 
 -- x may be added to N
 record Addable (s : Net) (N : Chan) (x : Entry) : Type 0 where
-  space : Room s (x .kind) N
+  space : HasRoom s (x .kind) (x .transaction .master) N
   fits : Fit (s .table) (s .begins) N x
 
 added : (s : Net) (N : Chan) (x : Entry) → Good s → Addable s N x → Good (edit (add N x) s)
@@ -66,7 +66,7 @@ added-behind s N x true g a = g
 added-behind s N x false g a = added s (opposite (s .table) N) (as-kind C x) g (a refl)
 
 answer-keeps : (s : Net) (N : Chan) (x : Entry) → Good s → is-kind C x ≡ false → Fit (s .table) (s .begins) N x
-    → (is-master (s .table) N ≡ false → Room s C (opposite (s .table) N)) → Good (edits (answer-given (s .table) N x) s)
+    → (is-master (s .table) N ≡ false → HasRoom s C (x .transaction .master) (opposite (s .table) N)) → Good (edits (answer-given (s .table) N x) s)
 unfolding as-kind
 answer-keeps s N x g c f r =
     added-behind s N x (is-master (s .table) N) g
@@ -103,43 +103,47 @@ module _ (s : Net) (g : Good s) where
         added (edit (raise m) s) (master-channel m) (new-entry s k write m a)
         (good-raise s m g (q .0) (leb-false 65535 (begun s m) (r .1 .1 .0)))
         (record {
-          space = not-full s k (master-channel m) (r .1 .1 .1 .0);
+          space = not-full s k m (master-channel m) (r .1 .1 .1 .0);
           fits = fit-new (q .0) (q .1) (r .1 .0);
         })
 
   -- ---- the named entry
 
-  record Named (k : ℕ) (x : Entry) (N : Chan) : Type 0 where
+  record Named (k : ℕ) (t : Transaction) (x : Entry) (N : Chan) : Type 0 where
     fits : Fit (s .table) (s .begins) N x
     kind : x .kind ≡ k
+    transaction : x .transaction ≡ t
 
   -- 6 does not hold: it is there, so it fits
-  named : (k : ℕ) (N : Chan) (t : Transaction) → no-such-entry s k N t ≡ false → Named k (entry-at s k N t) N
+  named : (k : ℕ) (N : Chan) (t : Transaction) → no-such-entry s k N t ≡ false → Named k t (entry-at s k N t) N
   named k N t h =
       let o = is-there (oldest k t (waiting s N)) (not-false (stands k t (waiting s N)) h) in
-      subst⁻¹ (λ (e : Option Entry). Named k (or-else zero-entry e) N) (o .1)
+      let own = named-is-its-own k t (o .0) (found-passes (is-named k t) (waiting s N) (o .1)) in
+      subst⁻¹ (λ (e : Option Entry). Named k t (or-else zero-entry e) N) (o .1)
       (record {
         fits = g .rules .fits N (o .0) (find-in (is-named k t) (waiting s N) (o .1));
-        kind = named-is-its-own k t (o .0) (found-passes (is-named k t) (waiting s N) (o .1)) .0;
+        kind = own .0;
+        transaction = own .1;
       })
 
   -- P and R are no C
-  no-C : (k : ℕ) (x : Entry) (N : Chan) → (k ≡ C → ⊥) → Named k x N → is-kind C x ≡ false
-  no-C k x N n h = ne-eqb (x .kind) C (λ (e : x .kind ≡ C). n (sym (h .kind) ∙ e))
+  no-C : (k : ℕ) (t : Transaction) (x : Entry) (N : Chan) → (k ≡ C → ⊥) → Named k t x N → is-kind C x ≡ false
+  no-C k t x N n h = ne-eqb (x .kind) C (λ (e : x .kind ≡ C). n (sym (h .kind) ∙ e))
 
   -- ---- an entry goes on to N1: post and latch
 
   -- it gives way in N, and y of its kind is added at N1
-  goes-on : (k : ℕ) (N : Chan) (t : Transaction) (f : Entry → List Entry) (y : Entry) → Tame (is-named k t) f → y .kind ≡ k
-      → full-ahead s k (ahead s k N t) ≡ false
+  goes-on : (k : ℕ) (N : Chan) (t : Transaction) (f : Entry → List Entry) (y : Entry) → Tame (is-named k t) f → y .kind ≡ k → y .transaction ≡ t
+      → full-ahead s k (t .master) (ahead s k N t) ≡ false
       → ((X : Chan) → ahead s k N t ≡ Through X → Fit (s .table) (s .begins) X y)
       → Good (edits (change N (is-named k t) f ∷ enters (ahead s k N t) y) s)
   unfolding edits edit
-  goes-on k N t f y tame e h fit =
+  goes-on k N t f y tame e o h fit =
       added-ahead (edit (change N (is-named k t) f) s) (ahead s k N t) y (good-change s N (is-named k t) f tame g)
       (λ X p. record {
-        space = subst⁻¹ (λ (j : ℕ). Room (edit (change N (is-named k t) f) s) j X) e
-            (room-stays s N (is-named k t) f tame k X (not-full s k X (rw p at h)));
+        space = subst⁻¹ (λ (j : ℕ). HasRoom (edit (change N (is-named k t) f) s) j (y .transaction .master) X) e
+            (subst⁻¹ (λ (u : Transaction). HasRoom (edit (change N (is-named k t) f) s) k (u .master) X) o
+            (room-stays s N (is-named k t) f tame k (t .master) X (not-full s k (t .master) X (rw p at h))));
         fits = fit X p;
       })
 
@@ -149,8 +153,8 @@ module _ (s : Net) (g : Good s) where
       let r = clear (grounds s (Post N t)) ok in
       let x = entry-at s P N t in
       let n = named P N t (r .1 .0) in
-      let c = no-C P x N (λ (e : P ≡ C). omega arith) n in
-      goes-on P N t gone x (tame-gone (is-named P t)) (n .kind) (r .1 .1 .1 .0)
+      let c = no-C P t x N (λ (e : P ≡ C). omega arith) n in
+      goes-on P N t gone x (tame-gone (is-named P t)) (n .kind) (n .transaction) (r .1 .1 .1 .0)
       (fit-next (s .table) (s .begins) N x (n .fits) (g .rules .passes) c)
 
   latch-keeps : (N : Chan) (t : Transaction) → Accepted s (Latch N t) → Good (after s (Latch N t))
@@ -159,8 +163,8 @@ module _ (s : Net) (g : Good s) where
       let r = clear (grounds s (Latch N t)) ok in
       let x = entry-at s R N t in
       let n = named R N t (r .1 .0) in
-      let c = no-C R x N (λ (e : R ≡ C). omega arith) n in
-      goes-on R N t marking (as-kind R x) (tame-marking t) refl (r .1 .1 .1 .1 .1 .0)
+      let c = no-C R t x N (λ (e : R ≡ C). omega arith) n in
+      goes-on R N t marking (as-kind R x) (tame-marking t) refl (n .transaction) (r .1 .1 .1 .1 .1 .0)
       (fit-copy (s .table) (s .begins) N x (n .fits) (g .rules .passes) c)
 
   -- ---- complete
@@ -174,7 +178,7 @@ module _ (s : Net) (g : Good s) where
     left-good = good-change s N (is-named R t) gone (tame-gone (is-named R t)) g
 
     taken-keeps : (N1 : NextPlace) (x : Entry) → is-kind C x ≡ false → Fit (s .table) (s .begins) N x
-        → (is-master (s .table) N ≡ false → Room left C (opposite (s .table) N))
+        → (is-master (s .table) N ≡ false → HasRoom left C (x .transaction .master) (opposite (s .table) N))
         → Good (edits (answer-taken (s .table) N1 t ++ answer-given (s .table) N x) left)
     unfolding edits edit
     taken-keeps Target x c f r = answer-keeps left N x left-good c f r
@@ -182,17 +186,18 @@ module _ (s : Net) (g : Good s) where
         let Y = opposite (s .table) X in
         let q = tame-gone (is-named C t) in
         answer-keeps (edit (leaves C Y t) left) N x (good-change left Y (is-named C t) gone q left-good) c f
-        (λ m. room-stays left Y (is-named C t) gone q C (opposite (s .table) N) (r m))
+        (λ m. room-stays left Y (is-named C t) gone q C (x .transaction .master) (opposite (s .table) N) (r m))
 
     complete-keeps : Accepted s (Complete N t) → Good (after s (Complete N t))
     unfolding grounds named-grounds after effects edits
     complete-keeps ok =
         let r = clear (grounds s (Complete N t)) ok in
         let n = named R N t (r .1 .0) in
-        taken-keeps (ahead s R N t) (entry-at s R N t) (no-C R (entry-at s R N t) N (λ (e : R ≡ C). omega arith) n) (n .fits)
+        taken-keeps (ahead s R N t) (entry-at s R N t) (no-C R t (entry-at s R N t) N (λ (e : R ≡ C). omega arith) n) (n .fits)
         (λ m.
-        let h : answer-full s N ≡ false = r .1 .1 .1 .1 .1 .0 in
-        room-stays s N (is-named R t) gone (tame-gone (is-named R t)) C (opposite (s .table) N) (not-full s C (opposite (s .table) N) (rw m at h)))
+        let h : answer-full s (t .master) N ≡ false = r .1 .1 .1 .1 .1 .0 in
+        subst⁻¹ (λ (u : Transaction). HasRoom left C (u .master) (opposite (s .table) N)) (n .transaction)
+        (room-stays s N (is-named R t) gone (tame-gone (is-named R t)) C (t .master) (opposite (s .table) N) (not-full s C (t .master) (opposite (s .table) N) (rw m at h))))
 
   pub rules-stay : (e : Event) → Accepted s e → Good (after s e)
   unfolding after effects grounds edits

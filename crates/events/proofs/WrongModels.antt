@@ -14,8 +14,9 @@ use Rattle.chassis.specs.Channels.{no-bridge, out-bus, in-bus, opposite}
 use Rattle.chassis.specs.Routes.{component, loop-free, all-joined, one-way, way-over, next-place, on-the-way, opposes-the-way}
 use Rattle.chassis.specs.Tables.{counts-in-range, unused-are-zero, buses-are-there, a-bridge-on-one-bus, table-grounds, table-passes}
 use Rattle.queue.specs.Entries.{is-named, marked, as-kind, is-zero-entry}
-use Rattle.queue.specs.Queues.{behind-P, first-C, filling}
+use Rattle.queue.specs.Queues.{behind-P, first-C}
 use Rattle.network.specs.declared.State.{State}
+use Rattle.network.specs.Rooms.{room-for, rooms}
 use Rattle.network.specs.Nets.{view, pack, empty-net}
 use Rattle.network.specs.Shapes.{no-channel, Shaped}
 use Rattle.network.specs.Soundness as Soundness
@@ -77,7 +78,7 @@ record Computed : Type 0 where
   empty : in-channel-0 at-rest ≡ 0
 
 computed : Computed
-unfolding one-bus at-rest step inner-step step-grounds after value effects new-entry grounds named-grounds begin-grounds decoded edits edit Soundness.sound Soundness.unused-are-zero Soundness.keeps-the-rules Soundness.fit Soundness.stands-right Soundness.within-limits Soundness.counts-fit empty-net pack view filling first-C behind-P is-zero-entry as-kind marked is-named table-passes table-grounds a-bridge-on-one-bus buses-are-there unused-are-zero counts-in-range on-the-way opposes-the-way next-place way-over one-way all-joined loop-free component opposite in-bus out-bus from-to parts modify all-from any all count alter find
+unfolding one-bus at-rest step inner-step step-grounds after value effects new-entry grounds named-grounds begin-grounds decoded edits edit Soundness.sound Soundness.unused-are-zero Soundness.keeps-the-rules Soundness.fit Soundness.stands-right Soundness.within-limits Soundness.counts-fit empty-net pack view room-for rooms first-C behind-P is-zero-entry as-kind marked is-named table-passes table-grounds a-bridge-on-one-bus buses-are-there unused-are-zero counts-in-range on-the-way opposes-the-way next-place way-over one-way all-joined loop-free component opposite in-bus out-bus from-to parts modify all-from any all count alter find
 computed = record { passes = refl; begins = refl; no-record = refl; enters = refl; counts = refl; empty = refl }
 
 shaped : Shaped at-rest

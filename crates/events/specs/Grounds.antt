@@ -23,7 +23,7 @@ begin-grounds s k m a =
     2 when not (has-agent (s .table) m && has-agent (s .table) a)
     ∷ 3 when same-agent m a
     ∷ 4 when leb 65535 (begun s m)
-    ∷ 5 when full s k (master-channel m)
+    ∷ 5 when full s k m (master-channel m)
     ∷ []
 
 -- others: 1, 2, 6, then
@@ -47,7 +47,7 @@ grounds s (Commit N t) =
 grounds s (Post N t) =
     named-grounds s P N t
     (9 when behind-a-P s P N t
-    ∷ 5 when full-ahead s P (ahead s P N t)
+    ∷ 5 when full-ahead s P (t .master) (ahead s P N t)
     ∷ [])
 -- latch 11, 9, 10, 5
 grounds s (Latch N t) =
@@ -55,7 +55,7 @@ grounds s (Latch N t) =
     (11 when is-target (ahead s R N t)
     ∷ 9 when behind-a-P s R N t
     ∷ 10 when latched-already s t (ahead s R N t)
-    ∷ 5 when full-ahead s R (ahead s R N t)
+    ∷ 5 when full-ahead s R (t .master) (ahead s R N t)
     ∷ [])
 -- complete 9, 12, 14, 5
 grounds s (Complete N t) =
@@ -63,7 +63,7 @@ grounds s (Complete N t) =
     (9 when behind-a-P s R N t
     ∷ 12 when unanswered s t (ahead s R N t)
     ∷ 14 when read-answer-behind-P s t (ahead s R N t)
-    ∷ 5 when answer-full s N
+    ∷ 5 when answer-full s (t .master) N
     ∷ [])
 -- drop request 7, 8
 grounds s (DropRequest N t) =

@@ -1,6 +1,7 @@
 -- What the grounds test, each under a name of its own. N is the named channel, t the named transaction, N1 the next place.
 use Prim.Native.Nat.{ℕ}
 use mathlib.Core.Bool.{Bool, true, false, not, _&&_, _||_}
+use Rattle.chassis.specs.declared.Agent.{Agent}
 use Rattle.chassis.specs.declared.Chan.{Chan}
 use Rattle.chassis.specs.declared.NextPlace.{NextPlace}
 use Rattle.chassis.specs.declared.NextPlace.the-variants.{Target, Through}
@@ -30,13 +31,13 @@ abbrev pub is-channel-with : (Chan → Bool) → NextPlace → Bool
 is-channel-with p Target = false
 is-channel-with p (Through X) = p X
 
--- 5, where the entry goes on to N1: the kind is at its limit there
-abbrev pub full-ahead : Net → ℕ → NextPlace → Bool
-full-ahead s k N1 = is-channel-with (full s k) N1
+-- 5, where an entry of kind k and master m goes on to N1: there is no room for it
+abbrev pub full-ahead : Net → ℕ → Agent → NextPlace → Bool
+full-ahead s k m N1 = is-channel-with (full s k m) N1
 
 -- 5, of a complete: in a bridge channel a C is to enter the opposite of N
-abbrev pub answer-full : Net → Chan → Bool
-answer-full s N = not (is-master (s .table) N) && full s C (opposite (s .table) N)
+abbrev pub answer-full : Net → Agent → Chan → Bool
+answer-full s m N = not (is-master (s .table) N) && full s C m (opposite (s .table) N)
 
 -- 6
 abbrev pub no-such-entry : Net → ℕ → Chan → Transaction → Bool

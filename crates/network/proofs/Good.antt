@@ -15,7 +15,7 @@ use Rattle.chassis.specs.declared.Agent.{Agent}
 use Rattle.chassis.specs.declared.Chan.{Chan}
 use Rattle.chassis.specs.declared.Table.{Table}
 use Rattle.chassis.specs.Numbers.{chan}
-use Rattle.chassis.specs.Channels.{has-agent, limit}
+use Rattle.chassis.specs.Channels.{has-agent}
 use Rattle.chassis.specs.Tables.{table-passes}
 use Rattle.queue.specs.declared.Entry.{Entry}
 use Rattle.queue.specs.declared.Channel.{Channel}
@@ -88,11 +88,11 @@ good-is-shaped s t g = record {
 -- ---- the empty network
 
 pub empty-is-good : (T : Table) → table-passes T ≡ true → Good (empty-net T)
-unfolding empty-net filling count
+unfolding empty-net count
 empty-is-good T h = record {
   rules = record {
     passes = h;
-    limits = λ N k i. subst⁻¹ (λ (l : List Entry). filling k l ≤ limit T k) (empty-waits T N) (omega arith);
+    limits = λ N r i. subst⁻¹ (λ (l : List Entry). filling (r .holds) l ≤ r .most) (empty-waits T N) (omega arith);
     fits = λ N x i. in-none (subst⁻¹ (λ (l : List Entry). In x l → In x []) (empty-waits T N) (λ j. j) i);
   };
   channels = refl;

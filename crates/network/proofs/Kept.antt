@@ -1,13 +1,13 @@
 -- Good stays good under one edit: an entry added where there is room and it fits, entries taken out or marked, a count raised.
 -- One law for each edit; a change by which an entry gives way to no more, and to none that does not fit, keeps the room too.
 use Prim.Native.Nat.{ℕ, _+_, _<_, _≤_}
-use mathlib.Core.Path.{_≡_, subst, subst⁻¹, _∙_}
+use mathlib.Core.Path.{_≡_, subst⁻¹, _∙_}
 use mathlib.Core.Bool.{Bool, true, false}
 use mathlib.Core.Logic.{⊎-elim}
 use mathlib.Core.List.{List, [], _∷_, _++_}
 use native.Mathlib.Omega.{arith}
 use native.Mathlib.Nat.{le-refl}
-use borrow.Author.Tests.{leb-false, eqb-true, eq-eqb}
+use borrow.Author.Tests.{leb-false, eq-eqb}
 use lib.ListN.{getD}
 use Rattle.base.specs.Lists.{alter, count, modify}
 use Rattle.base.proofs.Logic.{split, both}
@@ -17,21 +17,24 @@ use Rattle.chassis.specs.declared.Agent.{Agent}
 use Rattle.chassis.specs.declared.Chan.{Chan}
 use Rattle.chassis.specs.declared.Table.{Table}
 use Rattle.chassis.specs.Numbers.{agent, chan}
-use Rattle.chassis.specs.Channels.{has-agent, limit}
+use Rattle.chassis.specs.Channels.{has-agent}
 use Rattle.queue.specs.declared.Transaction.{Transaction}
 use Rattle.queue.specs.declared.Entry.{Entry}
-use Rattle.queue.specs.Entries.{R, kinds, is-kind, is-named, marked, gone, marking}
+use Rattle.queue.specs.Entries.{R, is-named, gone, marking}
 use Rattle.queue.specs.Queues.{filling}
 use Rattle.queue.proofs.Plainly.{named-is-its-own}
+use Rattle.queue.proofs.Marks.{Blind, gone-counts-less, marked-counts-alike}
+use Rattle.network.specs.Rooms.{Room, room-for, rooms}
 use Rattle.network.specs.Nets.{Net, waiting, begun, full}
 use Rattle.network.specs.Edits.{add, change, raise, edit}
+use Rattle.network.proofs.Rooms.{its-room, rooms-blind, room-blind}
 use Rattle.network.proofs.Rules.{Fit}
 use Rattle.network.proofs.Fits.{fit-marked, fit-raised}
 use Rattle.network.proofs.Good.{Good}
 
 -- a channel's part of being good
 record Held (T : Table) (begins : List ℕ) (n : ℕ) (l : List Entry) : Type 0 where
-  limits : (k : ℕ) → In k kinds → filling k l ≤ limit T k
+  limits : (r : Room) → In r (rooms T) → filling (r .holds) l ≤ r .most
   fits : (x : Entry) → In x l → Fit T begins (chan n) x
 
 held : (s : Net) → Good s → (n : ℕ) → Held (s .table) (s .begins) n (getD (s .chans) n [])
@@ -53,67 +56,66 @@ one-channel s N f g k =
 
 -- ---- an entry added
 
--- room for one more of kind k in N
-abbrev pub Room : Net → ℕ → Chan → Type 0
-Room s k N = filling k (waiting s N) < limit (s .table) k
+-- room in N for one more of kind k and master m
+abbrev pub HasRoom : Net → ℕ → Agent → Chan → Type 0
+HasRoom s k m N = let r = room-for (s .table) k m in filling (r .holds) (waiting s N) < r .most
 
-pub not-full : (s : Net) (k : ℕ) (N : Chan) → full s k N ≡ false → Room s k N
-not-full s k N h = leb-false (limit (s .table) k) (filling k (waiting s N)) h
+pub not-full : (s : Net) (k : ℕ) (m : Agent) (N : Chan) → full s k m N ≡ false → HasRoom s k m N
+not-full s k m N h = let r = room-for (s .table) k m in leb-false (r .most) (filling (r .holds) (waiting s N)) h
 
-filled : (T : Table) (l : List Entry) (x : Entry) (k : ℕ) → filling (x .kind) l < limit T (x .kind) → filling k l ≤ limit T k → filling k (l ++ (x ∷ [])) ≤ limit T k
-unfolding filling count
-filled T l x k r h =
-    split (is-kind k x)
+filled : (s : Net) (N : Chan) (x : Entry) (r : Room) → In r (rooms (s .table)) → HasRoom s (x .kind) (x .transaction .master) N
+    → filling (r .holds) (waiting s N) ≤ r .most → filling (r .holds) (waiting s N ++ (x ∷ [])) ≤ r .most
+unfolding count
+filled s N x r i h k =
+    let l = waiting s N in
+    split (r .holds x)
     (λ t.
-    let e = eqb-true (x .kind) k t in
-    let q : filling k l < limit T k = subst (λ (j : ℕ). filling j l < limit T j) e r in
-    let c = rw t at (count-add (is-kind k) l (x ∷ [])) in
+    let q = subst⁻¹ (λ (o : Room). filling (o .holds) l < o .most) (its-room (s .table) x r i t) h in
+    let c = rw t at (count-add (r .holds) l (x ∷ [])) in
     omega arith)
-    (λ f. let c = rw f at (count-add (is-kind k) l (x ∷ [])) in omega arith)
+    (λ f. let c = rw f at (count-add (r .holds) l (x ∷ [])) in omega arith)
 
-pub good-add : (s : Net) (N : Chan) (x : Entry) → Good s → Room s (x .kind) N → Fit (s .table) (s .begins) N x → Good (edit (add N x) s)
+pub good-add : (s : Net) (N : Chan) (x : Entry) → Good s → HasRoom s (x .kind) (x .transaction .master) N → Fit (s .table) (s .begins) N x → Good (edit (add N x) s)
 unfolding edit
 good-add s N x g r f =
     one-channel s N (λ l. l ++ (x ∷ [])) g
     (λ h. record {
-      limits = λ k i. filled (s .table) (waiting s N) x k r (h .limits k i);
+      limits = λ q i. filled s N x q i r (h .limits q i);
       fits = λ y i. ⊎-elim (λ j. h .fits y j) (λ j. subst⁻¹ (Fit (s .table) (s .begins) N) (in-one j) f) (in-append (waiting s N) (x ∷ []) i);
     })
 
 -- ---- entries taken out or marked
 
--- what passes p gives way, by f, to no more of any kind and to none that does not fit
+-- what passes p gives way, by f, to no more that a test counts which does not look at the mark, and to none that does not fit
 pub record Tame (p : Entry → Bool) (f : Entry → List Entry) : Type 0 where
-  pub fewer : (k : ℕ) (x : Entry) → filling k (f x) ≤ filling k (x ∷ [])
+  pub fewer : (q : Entry → Bool) → Blind q → (x : Entry) → filling q (f x) ≤ filling q (x ∷ [])
   pub still : (T : Table) (begins : List ℕ) (N : Chan) (x y : Entry) → p x ≡ true → In y (f x) → Fit T begins N x → Fit T begins N y
 
-fewer-left : {p : Entry → Bool} {f : Entry → List Entry} → Tame p f → (k : ℕ) (l : List Entry) → filling k (alter p f l) ≤ filling k l
-unfolding filling
-fewer-left {p} {f} t k l = count-alter (is-kind k) p f (t .fewer k) l
+fewer-left : {p : Entry → Bool} {f : Entry → List Entry} → Tame p f → (q : Entry → Bool) → Blind q → (l : List Entry) → filling q (alter p f l) ≤ filling q l
+fewer-left {p} {f} t q b l = count-alter q p f (t .fewer q b) l
 
 pub good-change : (s : Net) (N : Chan) (p : Entry → Bool) (f : Entry → List Entry) → Tame p f → Good s → Good (edit (change N p f) s)
 unfolding edit alter
 good-change s N p f t g =
     one-channel s N (alter p f) g
     (λ h. record {
-      limits = λ k i. omega (arith, fewer-left t k (waiting s N), h .limits k i);
+      limits = λ r i. omega (arith, fewer-left t (r .holds) (rooms-blind (s .table) r i) (waiting s N), h .limits r i);
       fits = λ y i. ⊎-elim (λ j. h .fits y j) (λ w. t .still (s .table) (s .begins) N (w .0) y (w .2) (w .3) (h .fits (w .0) (w .1))) (of-alter p f (waiting s N) i);
     })
 
-pub room-stays : (s : Net) (N : Chan) (p : Entry → Bool) (f : Entry → List Entry) → Tame p f → (k : ℕ) (M : Chan) → Room s k M → Room (edit (change N p f) s) k M
+pub room-stays : (s : Net) (N : Chan) (p : Entry → Bool) (f : Entry → List Entry) → Tame p f → (k : ℕ) (m : Agent) (M : Chan) → HasRoom s k m M → HasRoom (edit (change N p f) s) k m M
 unfolding edit
-room-stays s N p f t k M r =
-    let le = modify-every (λ n l. filling k l ≤ filling k (getD (s .chans) n [])) (s .chans) (N .0) (alter p f) [] (λ _. fewer-left t k (waiting s N)) (λ n. le-refl (filling k (getD (s .chans) n []))) (M .0) in
+room-stays s N p f t k m M r =
+    let q = room-for (s .table) k m .holds in
+    let le = modify-every (λ n l. filling q l ≤ filling q (getD (s .chans) n [])) (s .chans) (N .0) (alter p f) [] (λ _. fewer-left t q (room-blind (s .table) k m) (waiting s N)) (λ n. le-refl (filling q (getD (s .chans) n []))) (M .0) in
     omega arith
 
 pub tame-gone : (p : Entry → Bool) → Tame p gone
-unfolding filling count
-tame-gone p = record { fewer = λ k x. omega arith; still = λ T b N x y h i f. in-none i }
+tame-gone p = record { fewer = λ q b x. gone-counts-less q x; still = λ T b N x y h i f. in-none i }
 
 pub tame-marking : (t : Transaction) → Tame (is-named R t) marking
-unfolding filling count marked
 tame-marking t = record {
-  fewer = λ k x. le-refl (filling k (x ∷ []));
+  fewer = λ q b x. marked-counts-alike q x b;
   still = λ T b N x y h i f.
       subst⁻¹ (Fit T b N) (in-one i) (fit-marked T b N x f (eq-eqb (x .kind) R (named-is-its-own R t x h .0)));
 }

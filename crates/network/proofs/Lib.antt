@@ -1,5 +1,6 @@
 -- Laws of the state.
 pub mod AllZero
+pub mod Rooms
 pub mod Rules
 pub mod Fits
 pub mod Packing

@@ -14,15 +14,15 @@ use Rattle.base.proofs.Cells.{all-is-from, both-from, all-map, from-map}
 use Rattle.chassis.specs.declared.Chan.{Chan}
 use Rattle.chassis.specs.declared.Table.{Table}
 use Rattle.chassis.specs.Numbers.{chan, same-agent}
-use Rattle.chassis.specs.Channels.{has-agent, chan-count, limit}
+use Rattle.chassis.specs.Channels.{has-agent, chan-count}
 use Rattle.chassis.specs.Tables.{within, table-passes}
 use Rattle.queue.specs.declared.Entry.{Entry}
 use Rattle.queue.specs.declared.Channel.{Channel}
 use Rattle.queue.specs.Entries.{P, R, C, is-kind, is-zero-entry}
-use Rattle.queue.specs.Queues.{filling}
 use Rattle.queue.specs.Packing.{live}
 use Rattle.network.specs.declared.State.{State}
 use Rattle.network.specs.Nets.{view}
+use Rattle.network.specs.Rooms.{room-of, rooms, is-kept}
 use Rattle.network.specs.Soundness.{counts-fit, within-limits, stands-right, fit, keeps-the-rules, unused-are-zero, sound}
 use Rattle.network.specs.code.Testing.{counting, sound-channel, sound-count, tested}
 
@@ -72,17 +72,17 @@ pub ruleset entry-question = (unknown, posts-a-read, no-master, no-target, its-o
 -- ---- the limits of one channel
 
 module _ (T : Table) (l : List Entry) where
-  pub too-many-P : leb (filling P l) (limit T P) ≡ false → false ≡ within-limits T l
-  unfolding within-limits all
+  pub too-many-P : is-kept (room-of T P) l ≡ false → false ≡ within-limits T l
+  unfolding within-limits rooms all
   too-many-P a = rw a
 
-  module _ (a : leb (filling P l) (limit T P) ≡ true) where
-    pub too-many-R : leb (filling R l) (limit T R) ≡ false → false ≡ within-limits T l
-    unfolding within-limits all
+  module _ (a : is-kept (room-of T P) l ≡ true) where
+    pub too-many-R : is-kept (room-of T R) l ≡ false → false ≡ within-limits T l
+    unfolding within-limits rooms all
     too-many-R b = rw (a, b)
 
-    pub as-many-C : leb (filling R l) (limit T R) ≡ true → leb (filling C l) (limit T C) ≡ within-limits T l
-    unfolding within-limits all
+    pub as-many-C : is-kept (room-of T R) l ≡ true → is-kept (room-of T C) l ≡ within-limits T l
+    unfolding within-limits rooms all
     as-many-C b = rw (a, b) (and-end _)
 
 -- ---- one channel

@@ -7,11 +7,10 @@ use lib.ListN.{getD, replicate}
 use Rattle.chassis.specs.declared.Agent.{Agent}
 use Rattle.chassis.specs.declared.Chan.{Chan}
 use Rattle.chassis.specs.declared.Table.{Table}
-use Rattle.chassis.specs.Channels.{limit}
 use Rattle.queue.specs.declared.Entry.{Entry}
-use Rattle.queue.specs.Queues.{at-limit}
 use Rattle.queue.specs.Packing.{live, packed}
 use Rattle.network.specs.declared.State.{State}
+use Rattle.network.specs.Rooms.{room-for, is-full}
 
 pub record Net : Type 0 where
   pub table : Table
@@ -36,6 +35,6 @@ waiting s N = getD (s .chans) (N .0) []
 abbrev pub begun : Net → Agent → ℕ
 begun s a = getD (s .begins) (a .0) 0
 
--- kind k is at its limit in channel N
-abbrev pub full : Net → ℕ → Chan → Bool
-full s k N = at-limit (limit (s .table) k) k (waiting s N)
+-- channel N has no room for an entry of kind k and master m
+abbrev pub full : Net → ℕ → Agent → Chan → Bool
+full s k m N = is-full (room-for (s .table) k m) (waiting s N)

@@ -8,14 +8,14 @@ use Rattle.base.specs.Lists.{all, all-from}
 use Rattle.chassis.specs.declared.Chan.{Chan}
 use Rattle.chassis.specs.declared.Table.{Table}
 use Rattle.chassis.specs.Numbers.{chan, same-agent}
-use Rattle.chassis.specs.Channels.{has-agent, chan-count, limit}
+use Rattle.chassis.specs.Channels.{has-agent, chan-count}
 use Rattle.chassis.specs.Routes.{on-the-way, opposes-the-way}
 use Rattle.chassis.specs.Tables.{table-passes, within}
 use Rattle.queue.specs.declared.Entry.{Entry}
 use Rattle.queue.specs.declared.Channel.{Channel}
-use Rattle.queue.specs.Entries.{P, R, C, kinds, is-kind, is-zero-entry}
-use Rattle.queue.specs.Queues.{filling}
+use Rattle.queue.specs.Entries.{P, R, C, is-kind, is-zero-entry}
 use Rattle.network.specs.declared.State.{State}
+use Rattle.network.specs.Rooms.{rooms, is-kept}
 use Rattle.network.specs.Nets.{Net, view, begun}
 
 -- no channel's number of entries is above 24
@@ -24,7 +24,7 @@ counts-fit s = all (λ c. leb (c .count) 24) (s .channels)
 
 -- no kind exceeds its limit in a channel
 unfoldable pub within-limits : Table → List Entry → Bool
-within-limits T l = all (λ k. leb (filling k l) (limit T k)) kinds
+within-limits T l = all (λ r. is-kept r l) (rooms T)
 
 -- P and R stand only on the way from master to target; C stands only in the opposite of a bridge channel on that way
 unfoldable pub stands-right : Table → Chan → Entry → Bool

@@ -5,6 +5,7 @@ ghost use Rattle.network.specs.code.Acts.{acted-on, counted};
 ghost use Rattle.network.specs.Nets.{pack, empty-net};
 ghost use Rattle.network.specs.Opening.{zero-state, opened};
 
+pub mod limits; // limits.rt: how much a channel may hold
 pub mod soundness; // soundness.rt: ground 16
 
 use chassis::Agent;

@@ -4,17 +4,17 @@ ghost use mathlib.Core.Path.{_≡_};
 ghost use mathlib.Core.Bool.{true, not, _||_};
 ghost use Prim.Native.Nat.{_<_, _≤_};
 ghost use lib.ListN.{getD};
-ghost use lib.Dec.{ltb, leb, eqb};
+ghost use lib.Dec.{ltb, eqb};
 ghost use Rattle.base.specs.Lists.{all, all-from};
-ghost use Rattle.chassis.specs.Channels.{has-agent, chan-count, limit};
+ghost use Rattle.chassis.specs.Channels.{has-agent, chan-count};
 ghost use Rattle.chassis.specs.Tables.{table-passes, within};
 ghost use Rattle.check_tables.specs.Ladders.{ladder-of};
 ghost use Rattle.queue.specs.Entries.{P, R, C, is-kind};
-ghost use Rattle.queue.specs.Queues.{filling};
 ghost use Rattle.queue.specs.Packing.{live};
 ghost use Rattle.network.specs.Soundness.{within-limits, stands-right, fit, sound};
 ghost use Rattle.network.specs.code.Testing.{counting, sound-channel, sound-count};
 use crate::State;
+use crate::limits::kept_in;
 use chassis::Agent;
 use chassis::Chan;
 use chassis::Table;
@@ -137,24 +137,16 @@ fn entries_fit(t: Table, ways: &[u8; 256], begins: [u16; 32], n: Chan, c: Channe
     true
 }
 
-fn within_limit(t: Table, c: Channel, kind: u8) -> bool
-    requires { ⌜ (P ≤ kind) × (kind ≤ C) ⌝ }
-    ensures { λ r. ⌜ r ≡ leb (filling kind (live c)) (limit t kind) ⌝ }
-{
-    let i = kind as usize - 1;
-    c.filling(kind) <= t.limits[i] as usize
-}
-
 fn within_limits(t: Table, c: Channel) -> bool
     ensures { λ r. ⌜ r ≡ within-limits t (live c) ⌝ }
 {
-    if !within_limit(t, c, P) {
+    if !kept_in(t, P, c) {
         return false;
     }
-    if !within_limit(t, c, R) {
+    if !kept_in(t, R, c) {
         return false;
     }
-    within_limit(t, c, C)
+    kept_in(t, C, c)
 }
 
 // A channel that the table does not have holds nothing.

@@ -52,9 +52,10 @@ shows s N = sym (List·getD-map live (s .channels) (N .0) (record { entries = []
 -- ---- what is told is what is seen
 
 module _ (n : Net) (N : Chan) where
-  told-full : (k : ℕ) (next : NextPlace) → if-channel next (full-in (n .table) k (waiting n (ahead-or N next))) ≡ full-ahead n k next
-  told-full k Target = refl
-  told-full k (Through X) = refl
+  told-full : (k : ℕ) (m : Agent) (next : NextPlace) → if-channel next (full-in (n .table) k (waiting n (ahead-or N next))) ≡ full-ahead n k m next
+  unfolding room-for
+  told-full k m Target = refl
+  told-full k m (Through X) = refl
 
   told-waits : (t : Transaction) (next : NextPlace) → if-channel next (stands R t (waiting n (ahead-or N next))) ≡ is-channel-with (λ X. stands R t (waiting n X)) next
   told-waits t Target = refl
@@ -64,9 +65,9 @@ module _ (n : Net) (N : Chan) where
   told-back t Target = refl
   told-back t (Through X) = refl
 
-  told-answer-full : full-back (n .table) N (waiting n (back-or (n .table) N)) ≡ answer-full n N
-  unfolding back-or
-  told-answer-full = split (is-master (n .table) N) (λ h. rw h) (λ h. rw h)
+  told-answer-full : (m : Agent) → full-back (n .table) N (waiting n (back-or (n .table) N)) ≡ answer-full n m N
+  unfolding back-or room-for
+  told-answer-full m = split (is-master (n .table) N) (λ h. rw h) (λ h. rw h)
 
 module _ (n : Net) where
   -- all four lists, at an event's own channel
@@ -79,16 +80,16 @@ module _ (n : Net) where
   sight-path {o = o} p q r = λ i. record { full = p i; waits = q i; answer = r i; oldest = o }
 
   pub sight-shown : (e : Event) → told-sight e (next-of n e) ≡ sight n e
-  unfolding sight
+  unfolding sight room-for
   sight-shown (BeginPosted m a) = refl
   sight-shown (BeginRead m a) = refl
   sight-shown (BeginWrite m a) = refl
   sight-shown (Commit N t) = refl
-  sight-shown (Post N t) = sight-path (told-full n N P (next-of n (Post N t))) refl refl
+  sight-shown (Post N t) = sight-path (told-full n N P (t .master) (next-of n (Post N t))) refl refl
   sight-shown (Latch N t) =
       let next = next-of n (Latch N t) in
-      sight-path (told-full n N R next) (told-waits n N t next) (told-back n N t next)
-  sight-shown (Complete N t) = sight-path (told-answer-full n N) refl (told-back n N t (next-of n (Complete N t)))
+      sight-path (told-full n N R (t .master) next) (told-waits n N t next) (told-back n N t next)
+  sight-shown (Complete N t) = sight-path (told-answer-full n N (t .master)) refl (told-back n N t (next-of n (Complete N t)))
   sight-shown (DropRequest N t) = refl
   sight-shown (DropCompletion N t) = refl
 

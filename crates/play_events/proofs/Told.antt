@@ -84,7 +84,7 @@ module _ (s : Net) where
   Named N t = (has-chan (s .table) N ≡ true) × (has-agent (s .table) (t .master) ≡ true)
 
   module _ (m a : Agent) (h : has-agent (s .table) m ≡ true) (i : has-agent (s .table) a ≡ true) (j : same-agent m a ≡ false) where
-    told-begin : (k : ℕ) (write : Bool) → begin-verdict (begun s m) (full s k (master-channel m)) k write m a ≡ plan-by (refusal (begin-grounds s k m a)) (begin-plan s k write m a)
+    told-begin : (k : ℕ) (write : Bool) → begin-verdict (begun s m) (full s k m (master-channel m)) k write m a ≡ plan-by (refusal (begin-grounds s k m a)) (begin-plan s k write m a)
     unfolding begin-grounds new-entry
     told-begin k write = simp (decided, h, i, j)
 
@@ -103,9 +103,9 @@ module _ (s : Net) where
     told-post =
         split (stands P t (waiting s N))
         (λ f.
-        post-there N (look-at s (Post N t)) (next-of s (Post N t)) (full-ahead s P (next-of s (Post N t))) f
+        post-there N (look-at s (Post N t)) (next-of s (Post N t)) (full-ahead s P (t .master) (next-of s (Post N t))) f
         ∙ rw (next-there (Post N t) refl f) (simp (decided, h .0, h .1, f)))
-        (λ f. post-gone N (look-at s (Post N t)) (next-of s (Post N t)) (full-ahead s P (next-of s (Post N t))) f ∙ simp (decided, h .0, h .1, f))
+        (λ f. post-gone N (look-at s (Post N t)) (next-of s (Post N t)) (full-ahead s P (t .master) (next-of s (Post N t))) f ∙ simp (decided, h .0, h .1, f))
 
     told-latch : told (Latch N t) ≡ plan s (Latch N t)
     unfolding verdict plan grounds named-grounds accepted-plan look-at look-of sight
@@ -146,7 +146,7 @@ module _ (s : Net) where
 
   module _ (e : Event) (m a : Agent) (k : ℕ) (write : Bool)
       (own : plan s e ≡ plan-by (refusal (begin-grounds s k m a)) (begin-plan s k write m a))
-      (frames : framed (record { refusal = 0; event = e; at = master-channel m; master = m }) ≡ begin-verdict (begun s m) (full s k (master-channel m)) k write m a) where
+      (frames : framed (record { refusal = 0; event = e; at = master-channel m; master = m }) ≡ begin-verdict (begun s m) (full s k m (master-channel m)) k write m a) where
     framed-begin : framed (begin-frame (s .table) e m a) ≡ plan s e
     unfolding begin-grounds
     framed-begin =

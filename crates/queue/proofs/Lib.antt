@@ -4,3 +4,4 @@ pub mod Turns
 pub mod Placed
 pub mod Packed
 pub mod Lengths
+pub mod Marks

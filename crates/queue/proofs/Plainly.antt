@@ -2,7 +2,7 @@
 -- Each is also said part by part or entry by entry, as the code finds it out, so that the proofs of the code need not open the definitions.
 use Prim.Native.Nat.{ℕ, suc}
 use mathlib.Core.Path.{_≡_, refl, ap, sym, _∙_}
-use mathlib.Core.Bool.{true, false, cond, not, _&&_, and-false}
+use mathlib.Core.Bool.{Bool, true, false, cond, not, _&&_, and-false}
 use mathlib.Core.Bool as bool
 use mathlib.Core.List.{List, [], _∷_, _++_}
 use borrow.Author.Tests.{eqb-true, eq-eqb, ne-eqb}
@@ -10,7 +10,7 @@ use lib.Dec.{eqb}
 use Rattle.base.specs.Lists.{find, count, any}
 use Rattle.base.proofs.Cases.{and-yes}
 use Rattle.base.proofs.Logic.{split, and-true, or-false}
-use Rattle.base.proofs.Lists.{count-past, is-none}
+use Rattle.base.proofs.Lists.{is-none}
 use Rattle.chassis.specs.Numbers.{same-agent}
 use Rattle.queue.specs.declared.Transaction.{Transaction}
 use Rattle.queue.specs.declared.Entry.{Entry}
@@ -95,12 +95,7 @@ first-C-is t (u ∷ us) x vs n h =
     let r = or-false (is-named C t u) (any (is-named C t) us) n in
     split (is-kind C u) (λ y. rw (y, r .0)) (λ y. rw y (first-C-is t us x vs (r .1) h))
 
--- entry by entry: one of that kind counts, and no other
-pub filling-turn : (k : ℕ) (x : Entry) (l : List Entry) → filling k (x ∷ l) ≡ cond (is-kind k x) (suc (filling k l)) (filling k l)
-unfolding filling count
-filling-turn k x l = refl
-
--- each kind fills a channel by itself: an entry of another kind, wherever it stands, counts for nothing
-pub other-kinds-fill-nothing : (k : ℕ) (us : List Entry) (x : Entry) (vs : List Entry) → is-kind k x ≡ false → filling k (us ++ (x ∷ vs)) ≡ filling k (us ++ vs)
-unfolding filling
-other-kinds-fill-nothing k us x vs h = count-past (is-kind k) us x vs h
+-- entry by entry: one that passes counts, and no other
+pub filling-turn : (p : Entry → Bool) (x : Entry) (l : List Entry) → filling p (x ∷ l) ≡ cond (p x) (suc (filling p l)) (filling p l)
+unfolding count
+filling-turn p x l = refl

@@ -3,7 +3,6 @@ use Prim.Native.Nat.{ℕ}
 use mathlib.Core.Bool.{Bool, not, _&&_, _||_}
 use mathlib.Core.List.{List}
 use mathlib.Core.Option.{Option}
-use lib.Dec.{leb}
 use Rattle.base.specs.Lists.{find, count, is-some, passes, or-else}
 use Rattle.queue.specs.declared.Transaction.{Transaction}
 use Rattle.queue.specs.declared.Entry.{Entry}
@@ -28,10 +27,6 @@ behind-P k t l = stands k t l && not (passes (is-named k t) (find (λ x. is-kind
 unfoldable pub first-C : Transaction → List Entry → Bool
 first-C t l = passes (is-named C t) (find (is-kind C) l)
 
--- how many of that kind there are; each kind is counted by itself
-unfoldable pub filling : ℕ → List Entry → ℕ
-filling k l = count (is-kind k) l
-
--- the kind is at its limit
-abbrev pub at-limit : ℕ → ℕ → List Entry → Bool
-at-limit most k l = leb most (filling k l)
+-- how many pass a test; each kind, by its test, is counted by itself
+abbrev pub filling : (Entry → Bool) → List Entry → ℕ
+filling p l = count p l

@@ -212,7 +212,7 @@ impl Channel {
 
     // Each kind is counted by itself.
     pub fn filling(self, kind: u8) -> usize
-        ensures { λ r. ⌜ r ≡ filling kind (live self) ⌝ }
+        ensures { λ r. ⌜ r ≡ filling (is-kind kind) (live self) ⌝ }
     {
         let n = places(self.count);
         let mut k: usize = 0;

@@ -91,19 +91,19 @@ look-back s t Target = dull
 look-back s t (Through X) = look-of C t (waiting s (opposite (s .table) X))
 
 unfoldable pub sight : Net → Event → Sight
-sight s (BeginPosted m a) = sees-full (full s P (master-channel m))
-sight s (BeginRead m a) = sees-full (full s R (master-channel m))
-sight s (BeginWrite m a) = sees-full (full s R (master-channel m))
+sight s (BeginPosted m a) = sees-full (full s P m (master-channel m))
+sight s (BeginRead m a) = sees-full (full s R m (master-channel m))
+sight s (BeginWrite m a) = sees-full (full s R m (master-channel m))
 sight s (Commit N t) = sees-full false
-sight s (Post N t) = sees-full (full-ahead s P (next-of s (Post N t)))
+sight s (Post N t) = sees-full (full-ahead s P (t .master) (next-of s (Post N t)))
 sight s (Latch N t) = record {
-  full = full-ahead s R (next-of s (Latch N t));
+  full = full-ahead s R (t .master) (next-of s (Latch N t));
   waits = is-channel-with (λ X. stands R t (waiting s X)) (next-of s (Latch N t));
   answer = look-back s t (next-of s (Latch N t));
   oldest = false;
 }
 sight s (Complete N t) = record {
-  full = answer-full s N;
+  full = answer-full s (t .master) N;
   waits = false;
   answer = look-back s t (next-of s (Complete N t));
   oldest = false;

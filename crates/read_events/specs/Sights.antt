@@ -7,14 +7,15 @@ use Rattle.chassis.specs.declared.Chan.{Chan}
 use Rattle.chassis.specs.declared.Table.{Table}
 use Rattle.chassis.specs.declared.NextPlace.{NextPlace}
 use Rattle.chassis.specs.declared.NextPlace.the-variants.{Target, Through}
-use Rattle.chassis.specs.Channels.{is-master, limit}
+use Rattle.chassis.specs.Channels.{is-master}
 use Rattle.chassis.specs.Routes.{next-place}
 use Rattle.queue.specs.declared.Transaction.{Transaction}
 use Rattle.queue.specs.declared.Entry.{Entry}
 use Rattle.queue.specs.declared.Look.{Look}
 use Rattle.queue.specs.Entries.{P, R, C}
-use Rattle.queue.specs.Queues.{stands, first-C, at-limit}
+use Rattle.queue.specs.Queues.{stands, first-C}
 use Rattle.queue.specs.code.Changes.{look-of, dull}
+use Rattle.network.specs.Rooms.{room-of, is-full}
 use Rattle.events.specs.declared.Event.{Event}
 use Rattle.events.specs.declared.Event.the-variants.{BeginPosted, BeginRead, BeginWrite, Commit, Post, Latch, Complete, DropRequest, DropCompletion}
 use Rattle.events.specs.Accounts.{account}
@@ -40,7 +41,7 @@ look-if Target l = dull
 look-if (Through X) l = l
 
 abbrev pub full-in : Table → ℕ → List Entry → Bool
-full-in T k l = at-limit (limit T k) k l
+full-in T k l = is-full (room-of T k) l
 
 -- in a bridge channel there must be room for the answer
 abbrev pub full-back : Table → Chan → List Entry → Bool

@@ -6,6 +6,7 @@ use chassis::Table;
 use chassis::channels::is_master;
 use chassis::channels::opposite;
 use events::Event;
+use network::limits::full_in;
 use queue::Channel;
 use queue::Look;
 use queue::Transaction;
@@ -47,16 +48,6 @@ pub fn back_or(t: Table, n: Chan) -> Chan
         return n;
     }
     opposite(t, n)
-}
-
-// Kind k is at its limit.
-fn full_in(t: Table, kind: u8, c: Channel) -> bool
-    requires { ⌜ (1 ≤ kind) × (kind ≤ 3) ⌝ }
-    ensures { λ r. ⌜ r ≡ full-in t kind (live c) ⌝ }
-{
-    let i = (kind - 1) as usize;
-    let most = t.limits[i] as usize;
-    most <= c.filling(kind)
 }
 
 // Where N1 is a channel: is the kind at its limit there.

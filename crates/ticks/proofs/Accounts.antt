@@ -25,6 +25,7 @@ use Rattle.queue.specs.declared.Entry.{Entry}
 use Rattle.queue.specs.Entries.{P, R, C, is-kind, is-named, as-kind, zero-entry, gone, marking}
 use Rattle.queue.specs.Queues.{oldest, first-C}
 use Rattle.queue.proofs.Plainly.{named-is-its-own}
+use Rattle.queue.proofs.Marks.{named-blind}
 use Rattle.network.specs.Nets.{Net, waiting}
 use Rattle.network.specs.Edits.{change}
 use Rattle.events.specs.declared.Event.{Event}
@@ -35,7 +36,7 @@ use Rattle.events.specs.Effects.{leaves, is-marked, enters, answer-taken, answe
 use Rattle.ticks.specs.Footings.{Footing, occurs-on, drops-the, the-R, taken-from, footing}
 use Rattle.ticks.specs.Footings as Foot
 use Rattle.ticks.proofs.Guards.{has, Apart, Inwards, edits-of}
-use Rattle.ticks.proofs.Rights.{takes-out, marks, named-blind, quiet, Uses, on-bus, by-drop, Younger, of-oldest}
+use Rattle.ticks.proofs.Rights.{takes-out, marks, quiet, Uses, on-bus, by-drop, Younger, of-oldest}
 use Rattle.ticks.proofs.Begins.{Again, Account, begin-account}
 use Rattle.ticks.proofs.Pieces.{P≢C, R≢C, bringing-deeds, Brings, bringing, Piece, joined, so, Named, not-behind, still-not-behind, named-piece, found-piece, adding, adding-piece, entering, entering-piece, no-answers, giving, free-piece, gives-ahead, ahead-and-back, uses-answer, giving-piece}
 
@@ -134,7 +135,7 @@ module _ (s : Net) (N : Chan) (t : Transaction) where
           piece = so s e
               (joined s e ((leaves P N t, x) ∷ []) (entering N1 x)
               (named-piece P N t s e gone x takes-out (on-bus refl (λ (h : P ≡ R). absurd (omega arith)) (λ h. absurd (P≢C h))) (r .1))
-              (entering-piece s e P N1 x (gives-ahead s passed e N (named-there P _ c) refl (x .target)) (named-is-its-own P t x (r .1 .named) .0) P≢C
+              (entering-piece s e P (t .master) N1 x (gives-ahead s passed e N (named-there P _ c) refl (x .target)) (named-is-its-own P t x (r .1 .named) .0) P≢C
               (rw (ahead-is P s x refl (r .1 .found)) at (d .1 .0))))
               (λ u q b. record {
                 accepted = unclear (grounds u (Post N t))
@@ -168,7 +169,7 @@ module _ (s : Net) (N : Chan) (t : Transaction) where
               (named-piece R N t s e marking x marks (uses-R none) (r .1))
               (joined s e [] (adding X (as-kind R x))
               (free-piece s e t X v (ahead-and-back s passed e N (named-there R _ c) refl (x .target) X (n .1)) (rw (here s refl (r .1 .found)) at (d .1 .1 .0)))
-              (adding-piece s e R X (as-kind R x) v (no-answers s X (as-kind R x) R refl R≢C) (rw (here s refl (r .1 .found)) at (d .1 .1 .1 .0)))))
+              (adding-piece s e R (t .master) X (as-kind R x) v (no-answers s X (as-kind R x) R refl R≢C) (rw (here s refl (r .1 .found)) at (d .1 .1 .1 .0)))))
               (λ u q b. record {
                 accepted = unclear (grounds u (Latch N t))
                     (named-clear R u x _ _ q (b .0 .found) c (
@@ -232,7 +233,7 @@ module _ (s : Net) (N : Chan) (t : Transaction) where
     complete-inwards (Through X) false x c h k = ((two-entries (opposite (s .table) X) x c h (k X refl), (tt, tt)), ((tt, tt), (tt, tt)))
 
     complete-again : (u : Net) (x : Entry) → u .table ≡ s .table → Named s R N t x → Named u R N t x → Brings u t (next-place (s .table) N (x .target))
-        → answer-full u N ≡ false → Clear (grounds s (Complete N t)) → Again s u (Complete N t)
+        → answer-full u (t .master) N ≡ false → Clear (grounds s (Complete N t)) → Again s u (Complete N t)
     unfolding grounds value
     complete-again u x q a b k f c =
         let here = ahead-is R u x q (b .found) in
@@ -267,7 +268,7 @@ module _ (s : Net) (N : Chan) (t : Transaction) where
               (joined s e ((leaves R N t, x) ∷ []) (bringing-deeds (s .table) N1 t (w .entry) ++ gives)
               (named-piece R N t s e gone x takes-out (uses-R (taken-from (s .table) (ahead s R N t))) (r .1))
               (joined s e (bringing-deeds (s .table) N1 t (w .entry)) gives (w .piece)
-              (giving-piece s passed e N there refl b x refl
+              (giving-piece s passed e N there refl b (t .master) x refl
               (subst⁻¹ (λ (u : Transaction). oldest R u (waiting s N) ≡ some x) (own .1) (r .1 .found)) (d .1 .1 .1 .0))))
               (λ u q k. complete-again u x q (r .1) (k .0) (k .1 .0) (k .1 .1) c);
           inwards = complete-inwards N1 b x (w .entry) (r .1 .named) (w .named);

@@ -43,7 +43,7 @@ module _ (f : Event) (k : ℕ) (write : Bool) (m a : Agent) (no-C : k ≢ C)
     (ef : (u : Net) → effects u f ≡ begins u k write m a)
     (va : (u : Net) → value u f ≡ next-number u m)
     (fo : (u : Net) → footing u f ≡ begins-at m) where
-  begin-clear : (s u : Net) → u .table ≡ s .table → full u k (master-channel m) ≡ false → begun u m ≡ begun s m
+  begin-clear : (s u : Net) → u .table ≡ s .table → full u k m (master-channel m) ≡ false → begun u m ≡ begun s m
       → Clear (begin-grounds s k m a) → Clear (begin-grounds u k m a)
   unfolding begin-grounds
   begin-clear s u q r b c = (
@@ -55,7 +55,7 @@ module _ (f : Event) (k : ℕ) (write : Bool) (m a : Agent) (no-C : k ≢ C)
   unfolding new-entry
   same-begins s u b = rw b
 
-  begin-again : (s u : Net) → u .table ≡ s .table → full u k (master-channel m) ≡ false → begun u m ≡ begun s m → Clear (begin-grounds s k m a) → Again s u f
+  begin-again : (s u : Net) → u .table ≡ s .table → full u k m (master-channel m) ≡ false → begun u m ≡ begun s m → Clear (begin-grounds s k m a) → Again s u f
   begin-again s u q r b c = record {
     accepted = rw (gr u) (unclear (begin-grounds u k m a) (begin-clear s u q r b c));
     does = ef u ∙ same-begins s u b ∙ sym (ef s);
@@ -80,7 +80,7 @@ module _ (f : Event) (k : ℕ) (write : Bool) (m a : Agent) (no-C : k ≢ C)
         piece = subst⁻¹ (λ (e : Footing). Piece s e (adding (master-channel m) x ++ ((raise m, zero-entry) ∷ [])) (λ u. Again s u f)) (fo s)
             (so s e
             (joined s e (adding (master-channel m) x) ((raise m, zero-entry) ∷ [])
-            (adding-piece s e k (master-channel m) x (begin-gives s c) (no-answers s (master-channel m) x k refl no-C) (c .1 .1 .1 .0))
+            (adding-piece s e k m (master-channel m) x (begin-gives s c) (no-answers s (master-channel m) x k refl no-C) (c .1 .1 .1 .0))
             (raising-piece s e m refl))
             (λ u q h. begin-again s u q (h .0) (h .1) c));
         inwards = ((tt, tt), (tt, tt));

@@ -17,7 +17,8 @@ use Rattle.chassis.specs.Routes.{component, loop-free, all-joined, one-way, way
 use Rattle.chassis.specs.Tables.{counts-in-range, unused-are-zero, buses-are-there, a-bridge-on-one-bus, table-grounds, table-passes}
 use Rattle.queue.specs.declared.Transaction.{Transaction}
 use Rattle.queue.specs.Entries.{is-named, marked, as-kind}
-use Rattle.queue.specs.Queues.{behind-P, first-C, filling}
+use Rattle.queue.specs.Queues.{behind-P, first-C}
+use Rattle.network.specs.Rooms.{room-for}
 use Rattle.network.specs.Nets.{Net, empty-net}
 use Rattle.network.specs.Edits.{edit, edits}
 use Rattle.events.specs.declared.Event.{Event}
@@ -166,7 +167,7 @@ claimed r = record {
 }
 
 computed : map found rows ≡ map claimed rows
-unfolding rows T-with lines refusals end-of conflict clash alike footing after value effects new-entry grounds named-grounds begin-grounds edits edit empty-net filling first-C behind-P as-kind marked is-named table-passes table-grounds a-bridge-on-one-bus buses-are-there unused-are-zero counts-in-range next-place way-over one-way all-joined loop-free component opposite out-bus from-to modify any all count alter find
+unfolding rows T-with lines refusals end-of conflict clash alike footing after value effects new-entry grounds named-grounds begin-grounds edits edit empty-net room-for first-C behind-P as-kind marked is-named table-passes table-grounds a-bridge-on-one-bus buses-are-there unused-are-zero counts-in-range next-place way-over one-way all-joined loop-free component opposite out-bus from-to modify any all count alter find
 computed = refl
 
 -- ---- what it says of each row

@@ -8,7 +8,7 @@ use mathlib.Core.List.{List, [], _∷_, map}
 use mathlib.Core.Bool.{Bool, false}
 use mathlib.Core.Option.{none, some}
 use lib.ListN.{getD}
-use Rattle.base.specs.Lists.{find, count, modify}
+use Rattle.base.specs.Lists.{find, modify}
 use Rattle.base.proofs.Logic.{equal?}
 use Rattle.base.proofs.Queues.{find-add, none-add, find-alter, none-alter, count-alter, alter-add, alter-comm, modify-comm, modify-same, modify-keeps, getD-modify-other}
 use Rattle.base.proofs.Orders.{All, all-both}
@@ -16,8 +16,8 @@ use Rattle.chassis.specs.declared.Agent.{Agent}
 use Rattle.chassis.specs.declared.Chan.{Chan}
 use Rattle.chassis.proofs.Hops.{chan-path}
 use Rattle.queue.specs.declared.Entry.{Entry}
-use Rattle.queue.specs.Entries.{is-kind}
 use Rattle.queue.specs.Queues.{filling}
+use Rattle.network.specs.Rooms.{Room}
 use Rattle.network.specs.Nets.{Net, waiting, begun}
 use Rattle.network.specs.Edits.{Edit, add, change, raise, edit, edits}
 
@@ -26,15 +26,15 @@ pub data Guard : Type 0 where
   has : Chan → (Entry → Bool) → Entry → Guard
   -- none passes
   absent : Chan → (Entry → Bool) → Guard
-  -- of kind k there are fewer than n
-  room : Chan → ℕ → ℕ → Guard
+  -- there is room for one more
+  room : Chan → Room → Guard
   -- the agent's count
   counted : Agent → ℕ → Guard
 
 abbrev pub Holds : Net → Guard → Type 0
 Holds s (has X p x) = find p (waiting s X) ≡ some x
 Holds s (absent X p) = find p (waiting s X) ≡ none
-Holds s (room X k n) = filling k (waiting s X) < n
+Holds s (room X r) = filling (r .holds) (waiting s X) < r .most
 Holds s (counted a n) = begun s a ≡ n
 
 -- ---- which edits keep a guard
@@ -43,9 +43,9 @@ Holds s (counted a n) = begun s a ≡ n
 abbrev pub Quiet : (Entry → Bool) → (Entry → List Entry) → Type 0
 Quiet p f = (x : Entry) → p x ≡ false → find p (f x) ≡ none
 
--- f makes no more of kind k
-abbrev pub Calm : ℕ → (Entry → List Entry) → Type 0
-Calm k f = (x : Entry) → filling k (f x) ≤ filling k (x ∷ [])
+-- f makes no more that pass p
+abbrev pub Calm : (Entry → Bool) → (Entry → List Entry) → Type 0
+Calm p f = (x : Entry) → filling p (f x) ≤ filling p (x ∷ [])
 
 -- another channel, or something else
 abbrev pub Elsewhere : Chan → Chan → Type 0 → Type 0
@@ -58,9 +58,9 @@ Safe (has X p x) (raise b) = Unit {0}
 Safe (absent X p) (add Y y) = Elsewhere X Y (p y ≡ false)
 Safe (absent X p) (change Y q f) = Quiet p f
 Safe (absent X p) (raise b) = Unit {0}
-Safe (room X k n) (add Y y) = X ≢ Y
-Safe (room X k n) (change Y q f) = Calm k f
-Safe (room X k n) (raise b) = Unit {0}
+Safe (room X r) (add Y y) = X ≢ Y
+Safe (room X r) (change Y q f) = Calm (r .holds) f
+Safe (room X r) (raise b) = Unit {0}
 Safe (counted a n) (add Y y) = Unit {0}
 Safe (counted a n) (change Y q f) = Unit {0}
 Safe (counted a n) (raise b) = a ≢ b
@@ -86,7 +86,7 @@ unfolding find
 none-in p x h = rw h
 
 pub keeps : (s : Net) (g : Guard) (d : Edit) → Safe g d → Holds s g → Holds (edit d s) g
-unfolding edit filling
+unfolding edit
 keeps s (has X p x) (add Y y) w h = cell (λ l. find p l ≡ some x) (s .chans) (X .0) (Y .0) _ [] (λ _ k. find-add p (waiting s Y) (y ∷ []) k) h
 keeps s (has X p x) (change Y q f) w h =
     cell (λ l. find p l ≡ some x) (s .chans) (X .0) (Y .0) _ [] (λ c k. find-alter p q f (w .0) (waiting s Y) k (at-one (w .1) c)) h
@@ -95,10 +95,10 @@ keeps s (absent X p) (add Y y) w h =
     cell (λ l. find p l ≡ none) (s .chans) (X .0) (Y .0) _ [] (λ c k. none-add p (waiting s Y) (y ∷ []) k ∙ none-in p y (at-one w c)) h
 keeps s (absent X p) (change Y q f) w h = cell (λ l. find p l ≡ none) (s .chans) (X .0) (Y .0) _ [] (λ c k. none-alter p q f w (waiting s Y) k) h
 keeps s (absent X p) (raise b) w h = h
-keeps s (room X k n) (add Y y) w h = cell (λ l. count (is-kind k) l < n) (s .chans) (X .0) (Y .0) _ [] (λ c _. absurd (w (chan-path c))) h
-keeps s (room X k n) (change Y q f) w h =
-    cell (λ l. count (is-kind k) l < n) (s .chans) (X .0) (Y .0) _ [] (λ c j. omega (arith, count-alter (is-kind k) q f w (waiting s Y))) h
-keeps s (room X k n) (raise b) w h = h
+keeps s (room X r) (add Y y) w h = cell (λ l. filling (r .holds) l < r .most) (s .chans) (X .0) (Y .0) _ [] (λ c _. absurd (w (chan-path c))) h
+keeps s (room X r) (change Y q f) w h =
+    cell (λ l. filling (r .holds) l < r .most) (s .chans) (X .0) (Y .0) _ [] (λ c j. omega (arith, count-alter (r .holds) q f w (waiting s Y))) h
+keeps s (room X r) (raise b) w h = h
 keeps s (counted a n) (add Y y) w h = h
 keeps s (counted a n) (change Y q f) w h = h
 keeps s (counted a n) (raise b) w h = cell (λ m. m ≡ n) (s .begins) (a .0) (b .0) _ 0 (λ c _. absurd (w (agent-path c))) h

@@ -7,8 +7,7 @@ use mathlib.Core.Logic.{_≢_}
 use mathlib.Core.List.{List, [], _∷_, _++_}
 use mathlib.Core.Bool.{Bool, true, false, not, _&&_, _||_}
 use mathlib.Core.Option.{Option, none, some}
-use lib.Dec.{leb}
-use borrow.Author.Tests.{leb-false, lt-leb, not-false}
+use borrow.Author.Tests.{lt-leb, not-false}
 use Rattle.base.specs.Lists.{find, passes}
 use Rattle.base.proofs.Logic.{split, both, or-false, none-some}
 use Rattle.base.proofs.Lists.{found-passes, is-there, is-none}
@@ -18,7 +17,7 @@ use Rattle.chassis.specs.declared.Chan.{Chan}
 use Rattle.chassis.specs.declared.Table.{Table}
 use Rattle.chassis.specs.declared.NextPlace.{NextPlace}
 use Rattle.chassis.specs.declared.NextPlace.the-variants.{Target, Through}
-use Rattle.chassis.specs.Channels.{has-chan, is-master, out-bus, opposite, limit}
+use Rattle.chassis.specs.Channels.{has-chan, is-master, out-bus, opposite}
 use Rattle.chassis.specs.Routes.{next-place}
 use Rattle.chassis.specs.Tables.{table-passes}
 use Rattle.chassis.proofs.Hops.{opposing}
@@ -27,13 +26,17 @@ use Rattle.queue.specs.declared.Transaction.{Transaction}
 use Rattle.queue.specs.declared.Entry.{Entry}
 use Rattle.queue.specs.Entries.{P, R, C, is-kind, is-named, marked, as-kind, zero-entry, gone}
 use Rattle.queue.specs.Queues.{oldest, stands, behind-P, filling}
+use Rattle.queue.proofs.Marks.{Blind, named-blind}
+use Rattle.network.specs.Rooms.{Room, room-for, is-full}
 use Rattle.network.specs.Nets.{Net, waiting, begun, full}
 use Rattle.network.specs.Edits.{add, change, raise}
+use Rattle.network.proofs.Rooms.{room-blind}
+use Rattle.network.proofs.Kept.{not-full}
 use Rattle.events.specs.Tests.{entry-at, full-ahead, answer-full, no-such-entry, behind-a-P, answered, latched-already, unanswered, read-answer-behind-P}
 use Rattle.events.specs.Effects.{leaves}
 use Rattle.ticks.specs.Footings.{Name, Footing}
 use Rattle.ticks.proofs.Guards.{Guard, has, absent, room, counted, Holds, Deed, Ready}
-use Rattle.ticks.proofs.Rights.{Change, takes-out, Blind, named-blind, Uses, on-bus, Gives, into-bus, Answers, Does, adds, changes, raises, Asks, of-name, none-ahead, no-answer, of-room, of-count}
+use Rattle.ticks.proofs.Rights.{Change, takes-out, Uses, on-bus, Gives, into-bus, Answers, Does, adds, changes, raises, Asks, of-name, none-ahead, no-answer, of-room, of-count}
 
 pub P≢C : P ≢ C
 P≢C h = omega arith
@@ -148,18 +151,18 @@ module _ (k : ℕ) (N : Chan) (t : Transaction) where
 abbrev pub adding : Chan → Entry → List Deed
 adding X x = (add X x, x) ∷ []
 
-still-room : (S T : Table) (k : ℕ) (l : List Entry) → T ≡ S → filling k l < limit S k → leb (limit T k) (filling k l) ≡ false
-still-room S T k l q h = rw q (lt-leb (limit S k) (filling k l) h)
+still-room : (r q : Room) (l : List Entry) → q ≡ r → filling (r .holds) l < r .most → is-full q l ≡ false
+still-room r q l e h = rw e (lt-leb (r .most) (filling (r .holds) l) h)
 
-pub adding-piece : (s : Net) (e : Footing) (k : ℕ) (X : Chan) (x : Entry) → Gives s e X → Answers s X x → full s k X ≡ false
-    → Piece s e (adding X x) (λ u. full u k X ≡ false)
-adding-piece s e k X x v o h = record {
-  guards = room X k (limit (s .table) k) ∷ [];
-  held = (leb-false (limit (s .table) k) (filling k (waiting s X)) h, tt);
-  own = (of-room v, tt);
+pub adding-piece : (s : Net) (e : Footing) (k : ℕ) (m : Agent) (X : Chan) (x : Entry) → Gives s e X → Answers s X x → full s k m X ≡ false
+    → Piece s e (adding X x) (λ u. full u k m X ≡ false)
+adding-piece s e k m X x v o h = record {
+  guards = room X (room-for (s .table) k m) ∷ [];
+  held = (not-full s k m X h, tt);
+  own = (of-room v (room-blind (s .table) k m), tt);
   ready = (tt, tt);
   mine = (adds v o, tt);
-  again = λ u q g. still-room (s .table) (u .table) k (waiting u X) q (g .0);
+  again = λ u q g. still-room (room-for (s .table) k m) (room-for (u .table) k m) (waiting u X) (ap (λ (T : Table). room-for T k m) q) (g .0);
 }
 
 -- the agent's count is as before, and rises
@@ -182,10 +185,10 @@ entering (Through X) x = adding X x
 pub no-answers : (s : Net) (X : Chan) (x : Entry) (k : ℕ) → x .kind ≡ k → k ≢ C → Answers s X x
 no-answers s X x k q n c = absurd (n (sym q ∙ c))
 
-pub entering-piece : (s : Net) (e : Footing) (k : ℕ) (N1 : NextPlace) (x : Entry) → ((X : Chan) → N1 ≡ Through X → Gives s e X) → x .kind ≡ k → k ≢ C
-    → full-ahead s k N1 ≡ false → Piece s e (entering N1 x) (λ u. full-ahead u k N1 ≡ false)
-entering-piece s e k Target x v q n h = so s e (no-piece s e) (λ u t g. refl)
-entering-piece s e k (Through X) x v q n h = adding-piece s e k X x (v X refl) (no-answers s X x k q n) h
+pub entering-piece : (s : Net) (e : Footing) (k : ℕ) (m : Agent) (N1 : NextPlace) (x : Entry) → ((X : Chan) → N1 ≡ Through X → Gives s e X) → x .kind ≡ k → k ≢ C
+    → full-ahead s k m N1 ≡ false → Piece s e (entering N1 x) (λ u. full-ahead u k m N1 ≡ false)
+entering-piece s e k m Target x v q n h = so s e (no-piece s e) (λ u t g. refl)
+entering-piece s e k m (Through X) x v q n h = adding-piece s e k m X x (v X refl) (no-answers s X x k q n) h
 
 -- in the opposite of N, if N is no master channel
 abbrev pub giving : Table → Bool → Chan → Entry → List Deed
@@ -309,18 +312,18 @@ module _ (s : Net) (ok : table-passes (s .table) ≡ true) (e : Footing) (N : Ch
       let o = opposing (s .table) X (n .there) (n .no-master) in
       on-bus (bus ∙ sym (n .into) ∙ o .out) (λ (k : C ≡ R). absurd (omega arith)) (λ _. c)
 
-  pub giving-piece : (b : Bool) (x : Entry) → is-master (s .table) N ≡ b → oldest R (x .transaction) (waiting s N) ≡ some x → answer-full s N ≡ false
-      → Piece s e (giving (s .table) b N x) (λ u. answer-full u N ≡ false)
+  pub giving-piece : (b : Bool) (m : Agent) (x : Entry) → is-master (s .table) N ≡ b → oldest R (x .transaction) (waiting s N) ≡ some x → answer-full s m N ≡ false
+      → Piece s e (giving (s .table) b N x) (λ u. answer-full u m N ≡ false)
   unfolding as-kind
-  giving-piece true x m h r = so s e (no-piece s e) (λ u q _. masters u q)
+  giving-piece true m x i h r = so s e (no-piece s e) (λ u q _. masters u q)
     where
-      masters : (u : Net) → u .table ≡ s .table → answer-full u N ≡ false
-      masters u q = subst⁻¹ (λ (T : Table). (not (is-master T N) && leb (limit T C) (filling C (waiting u (opposite T N)))) ≡ false) q (rw m)
-  giving-piece false x m h r =
-      let o = opposing (s .table) N there m in
+      masters : (u : Net) → u .table ≡ s .table → answer-full u m N ≡ false
+      masters u q = subst⁻¹ (λ (T : Table). (not (is-master T N) && is-full (room-for T C m) (waiting u (opposite T N))) ≡ false) q (rw i)
+  giving-piece false m x i h r =
+      let o = opposing (s .table) N there i in
       so s e
-      (adding-piece s e C (opposite (s .table) N) (as-kind C x) (into-bus (out-bus (s .table) N) bus (o .into))
+      (adding-piece s e C m (opposite (s .table) N) (as-kind C x) (into-bus (out-bus (s .table) N) bus (o .into))
       (λ _. (x, subst⁻¹ (λ (Y : Chan). oldest R (x .transaction) (waiting s Y) ≡ some x) (o .back) h))
-      (rw m at r))
-      (λ u q f. and-not (not (is-master (u .table) N)) (full u C (opposite (u .table) N))
-      (subst⁻¹ (λ (Y : Chan). full u C Y ≡ false) (ap (λ (T : Table). opposite T N) q) f))
+      (rw i at r))
+      (λ u q f. and-not (not (is-master (u .table) N)) (full u C m (opposite (u .table) N))
+      (subst⁻¹ (λ (Y : Chan). full u C m Y ≡ false) (ap (λ (T : Table). opposite T N) q) f))

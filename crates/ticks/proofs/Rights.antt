@@ -2,15 +2,14 @@
 -- One law for all pairs of kinds: each guard and edit names the right by which an event touches it, and a right that two share is a case (a) to (e).
 use Prim.Native.Nat.{ℕ}
 use native.Mathlib.Omega.{arith}
-use native.Mathlib.Nat.{le-refl}
 use mathlib.Core.Path.{_≡_, refl, sym, ap, subst, _∙_}
 use mathlib.Core.Logic.{_≢_, _⊎_, inl, inr, ⊎-elim}
-use mathlib.Core.List.{List, [], _∷_}
+use mathlib.Core.List.{List}
 use mathlib.Core.Bool.{Bool, true, false, _&&_, _||_}
 use mathlib.Core.Option.{Option, none, some}
 use lib.Dec.{eqb}
 use borrow.Author.Tests.{eqb-true, eq-eqb}
-use Rattle.base.specs.Lists.{find, count}
+use Rattle.base.specs.Lists.{find}
 use Rattle.base.proofs.Logic.{split, both, and-true, or-false, none-some, equal?}
 use Rattle.base.proofs.Lists.{found-passes}
 use Rattle.chassis.specs.declared.Agent.{Agent}
@@ -22,8 +21,9 @@ use Rattle.chassis.proofs.Hops.{chan-path}
 use Rattle.queue.specs.declared.Transaction.{Transaction}
 use Rattle.queue.specs.declared.Entry.{Entry}
 use Rattle.queue.specs.Entries.{R, C, is-kind, is-named, same-transaction, marked, gone, marking}
-use Rattle.queue.specs.Queues.{filling}
 use Rattle.queue.proofs.Plainly.{same-is-one, named-is-its-own}
+use Rattle.queue.proofs.Marks.{Blind, kind-blind, named-blind, gone-counts-less, marked-counts-alike}
+use Rattle.network.specs.Rooms.{Room}
 use Rattle.network.specs.Nets.{Net, waiting}
 use Rattle.network.specs.Edits.{add, change, raise}
 use Rattle.ticks.specs.Footings.{Name, Footing}
@@ -122,31 +122,19 @@ peace-back e f n = record {
 
 -- ---- the rights
 
--- a change that takes out or marks; a test that does not see the mark
+-- a change that takes out or marks
 pub data Change : (Entry → List Entry) → Type 0 where
   takes-out : Change gone
   marks : Change marking
-
-abbrev pub Blind : (Entry → Bool) → Type 0
-Blind p = (x : Entry) → p (marked x) ≡ p x
-
-pub named-blind : (k : ℕ) (t : Transaction) → Blind (is-named k t)
-unfolding marked is-named
-named-blind k t x = refl
-
-kind-blind : (k : ℕ) → Blind (is-kind k)
-unfolding marked
-kind-blind k x = refl
 
 pub quiet : (p : Entry → Bool) {f : Entry → List Entry} → Blind p → Change f → Quiet p f
 unfolding find
 quiet p b takes-out x h = refl
 quiet p b marks x h = let k : p (marked x) ≡ false = b x ∙ h in rw k
 
-calm : (k : ℕ) {f : Entry → List Entry} → Change f → Calm k f
-unfolding marked filling count
-calm k takes-out x = omega arith
-calm k marks x = le-refl (filling k (x ∷ []))
+calm : (p : Entry → Bool) {f : Entry → List Entry} → Blind p → Change f → Calm p f
+calm p b takes-out x = gone-counts-less p x
+calm p b marks x = marked-counts-alike p x b
 
 module _ (s : Net) where
   -- K is a C, and another C is older
@@ -182,7 +170,7 @@ module _ (s : Net) where
         → Asks e (has (K .channel) (is-kind C) x)
     none-ahead : {X : Chan} {p : Entry → Bool} → Gives e X → Blind p → Asks e (absent X p)
     no-answer : (X : Chan) (t : Transaction) → find (is-named R t) (waiting s (opposite (s .table) X)) ≡ none → Asks e (absent X (is-named C t))
-    of-room : {X : Chan} {k n : ℕ} → Gives e X → Asks e (room X k n)
+    of-room : {X : Chan} {r : Room} → Gives e X → Blind (r .holds) → Asks e (room X r)
     of-count : {a : Agent} {n : ℕ} → e .beginner ≡ some a → Asks e (counted a n)
 
   -- ---- no right is shared
@@ -290,9 +278,9 @@ module _ (s : Net) where
       (subst (λ (u : Transaction). find (is-named R u) (waiting s (opposite (s .table) Y)) ≡ some (y .0)) (q .1) (y .1)))
   guard-safe f e g a n (no-answer X t h) (changes L u c k) = quiet (is-named C t) (named-blind C t) c
   guard-safe f e g a n (no-answer X t h) (raises d) = tt
-  guard-safe f e g a n (of-room {X = X} v) (adds {X = Y} w o) = give-alone f e X Y n v w
-  guard-safe f e g a n (of-room {k = k} v) (changes L u c h) = calm k c
-  guard-safe f e g a n (of-room v) (raises d) = tt
+  guard-safe f e g a n (of-room {X = X} v b) (adds {X = Y} w o) = give-alone f e X Y n v w
+  guard-safe f e g a n (of-room {r = r} v b) (changes L u c h) = calm (r .holds) b c
+  guard-safe f e g a n (of-room v b) (raises d) = tt
   guard-safe f e g a n (of-count d) (adds v o) = tt
   guard-safe f e g a n (of-count d) (changes L u c h) = tt
   guard-safe f e g a n (of-count {a = x} d) (raises {a = y} d2) = begin-alone f e x y n d d2

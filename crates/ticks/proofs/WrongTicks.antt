@@ -17,8 +17,9 @@ use Rattle.chassis.specs.Numbers.{agent, chan}
 use Rattle.chassis.specs.Routes.{component, loop-free, all-joined, one-way, way-over, next-place, on-the-way, opposes-the-way}
 use Rattle.chassis.specs.Tables.{counts-in-range, unused-are-zero, buses-are-there, a-bridge-on-one-bus, table-grounds, table-passes}
 use Rattle.queue.specs.Entries.{is-named, marked, as-kind, is-zero-entry}
-use Rattle.queue.specs.Queues.{behind-P, first-C, filling}
+use Rattle.queue.specs.Queues.{behind-P, first-C}
 use Rattle.network.specs.declared.State.{State}
+use Rattle.network.specs.Rooms.{room-for, rooms}
 use Rattle.network.specs.Nets.{Net, view, pack, empty-net}
 use Rattle.network.specs.Shapes.{no-channel}
 use Rattle.network.specs.Soundness as Soundness
@@ -182,7 +183,7 @@ unfolding T-with
 of-T p r c = record { limits = refl; pairs = refl; homes = refl }
 
 computed : Computed
-unfolding begin-and-post two-posts T-with tick judged tick-grounds records values-of end-of known first-pair partner first-refused conflict clash alike footing record-grounds after value effects new-entry grounds named-grounds begin-grounds decoded edits edit Soundness.sound Soundness.unused-are-zero Soundness.keeps-the-rules Soundness.fit Soundness.stands-right Soundness.within-limits Soundness.counts-fit empty-net pack view filling first-C behind-P is-zero-entry as-kind marked is-named table-passes table-grounds a-bridge-on-one-bus buses-are-there unused-are-zero counts-in-range on-the-way opposes-the-way next-place way-over one-way all-joined loop-free component opposite in-bus out-bus from-to parts modify all-from any all count alter find
+unfolding begin-and-post two-posts T-with tick judged tick-grounds records values-of end-of known first-pair partner first-refused conflict clash alike footing record-grounds after value effects new-entry grounds named-grounds begin-grounds decoded edits edit Soundness.sound Soundness.unused-are-zero Soundness.keeps-the-rules Soundness.fit Soundness.stands-right Soundness.within-limits Soundness.counts-fit empty-net pack view room-for rooms first-C behind-P is-zero-entry as-kind marked is-named table-passes table-grounds a-bridge-on-one-bus buses-are-there unused-are-zero counts-in-range on-the-way opposes-the-way next-place way-over one-way all-joined loop-free component opposite in-bus out-bus from-to parts modify all-from any all count alter find
 computed = record {
   nodded = record { arrays = of-T 2 1 1; passes = refl; earlier = one-more refl at-end; bytes = refl; places = refl; grounds-none = refl; events = refl; first-alone = refl; apart = refl };
   second-alone = refl;

@@ -8,7 +8,7 @@ use mathlib.Core.Logic.{⊎-elim}
 use lib.ListN.{getD}
 use Rattle.base.specs.Lists.{count}
 use Rattle.base.proofs.Walks.{owned}
-use Rattle.queue.specs.Entries.{zero-entry}
+use Rattle.queue.specs.Entries.{zero-entry, is-kind}
 use Rattle.queue.specs.Queues.{filling}
 use Rattle.queue.specs.Packing.{live}
 use Rattle.queue.proofs.Plainly.{filling-turn}
@@ -17,7 +17,7 @@ use Rattle.queue.proofs.Channel.filling.Statement.{statement}
 use Rattle.queue.proofs.Channel.filling.Tie as tie
 
 abbrev Inv-loop : tie.InvT-loop
-Inv-loop kind self n k₀ i₀ k i = (k ≤ i) × Ahead (λ _ l. k + filling kind l) self i (filling kind (live self))
+Inv-loop kind self n k₀ i₀ k i = (k ≤ i) × Ahead (λ _ l. k + filling (is-kind kind) l) self i (filling (is-kind kind) (live self))
 
 abbrev μ-loop : tie.MeasureT-loop
 μ-loop kind self n k₀ i₀ k i = n - i
@@ -50,14 +50,14 @@ loop-again : tie.Need-loop-again Inv-loop μ-loop
 loop-again c =
     let a = c .before .before .before .before .before .before .args in
     let l = c .before .before .before .before .loop in
-    let turn = filling-turn (a .kind) (getD (a .t1 .entries) (l .i) zero-entry) in
+    let turn = filling-turn (is-kind (a .kind)) (getD (a .t1 .entries) (l .i) zero-entry) in
     ⊎-elim
     (λ w. (omega (arith, w .1), further (l .inv .1) (search needs) (λ m. omega (arith, w .1, rw (sym (c .before .is-kind .ensures) ∙ w .0 .taken) at (turn m)))))
     (λ w. (omega (arith, w .1), further (l .inv .1) (search needs) (λ m. omega (arith, w .1, rw (sym (c .before .is-kind .ensures) ∙ w .0 .left) at (turn m)))))
     (c .if1 .came)
 
 returns : tie.Need-returns Inv-loop μ-loop
-unfolding filling count
+unfolding count
 returns c = omega (arith, over (c .before .loop .inv .1) (search needs))
 
 pub filling-spec : {M : Type 1} → statement M
