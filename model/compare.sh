@@ -7,4 +7,5 @@ seed=${2:-1}
 CARGO_TARGET_DIR=../target/model
 export CARGO_TARGET_DIR
 cargo build --release --offline --quiet
+../pcibus --build
 exec "$CARGO_TARGET_DIR/release/compare" ../pcibus "$seed" "$count" ../target/model/differences
