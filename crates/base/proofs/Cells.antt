@@ -4,11 +4,11 @@ use Prim.Native.Nat.{ℕ, zero, suc, _<_}
 use mathlib.Core.Path.{_≡_, refl, sym, ap, _∙_}
 use mathlib.Core.Bool.{Bool, true, false, cond, _&&_, _||_}
 use mathlib.Core.Logic.{_⊎_, inl, inr, ⊎-elim}
-use mathlib.Core.Option.{some}
+use mathlib.Core.Option.{none, some}
 use mathlib.Core.List.{List, [], _∷_, _++_, map}
 use native.Mathlib.Omega.{arith}
-use lib.ListN.{getD, length}
-use Rattle.base.specs.Lists.{find, alter, all, any, all-from, modify}
+use lib.ListN.{getD, length, take}
+use Rattle.base.specs.Lists.{find, alter, all, any, all-from, modify, is-some}
 use Rattle.base.proofs.Logic.{split, and-true, true-and, and-four, both, none-some}
 
 pub or-true : (a b : Bool) → a || b ≡ true → (a ≡ true) ⊎ (b ≡ true)
@@ -46,6 +46,14 @@ module _ {A : Type 0} where
   in-append (b ∷ k) l first = inl first
   in-append (b ∷ k) l (later i) = ⊎-elim (λ j. inl (later j)) (λ j. inr j) (in-append k l i)
 
+  pub in-left : (k l : List A) {a : A} → In a k → In a (k ++ l)
+  in-left (b ∷ k) l first = first
+  in-left (b ∷ k) l (later i) = later (in-left k l i)
+
+  pub in-right : (k l : List A) {a : A} → In a l → In a (k ++ l)
+  in-right [] l i = i
+  in-right (b ∷ k) l i = later (in-right k l i)
+
   -- a test that one passes, and one that all pass
   pub any-in : (p : A → Bool) (l : List A) → any p l ≡ true → (a : A) × In a l × (p a ≡ true)
   unfolding any
@@ -75,6 +83,16 @@ module _ {A : Type 0} where
   unfolding find
   find-in p [] {a} h = absurd (none-some {a = a} refl h)
   find-in p (b ∷ l) {a} h = split (p b) (λ t. let e : b ≡ a = cc (rw t at h) in rw e first) (λ f. later (find-in p l (rw f at h)))
+
+  pub in-found : (p : A → Bool) (l : List A) {a : A} → In a l → p a ≡ true → is-some (find p l) ≡ true
+  unfolding find
+  in-found p (b ∷ l) first h = rw h
+  in-found p (b ∷ l) (later i) h = split (p b) (λ t. rw t) (λ f. rw f (in-found p l i h))
+
+  pub none-found : (p : A → Bool) (l : List A) → ((a : A) → In a l → p a ≡ false) → find p l ≡ none
+  unfolding find
+  none-found p [] h = refl
+  none-found p (b ∷ l) h = rw (h b first) (none-found p l (λ a i. h a (later i)))
 
   -- what an alteration leaves
   pub of-alter : (q : A → Bool) (f : A → List A) (l : List A) {a : A} → In a (alter q f l) → In a l ⊎ ((b : A) × In b l × (q b ≡ true) × In a (f b))
@@ -129,6 +147,24 @@ module _ {A : Type 0} where
   pub cell-all : (p : A → Bool) (l : List A) (d : A) → ((j : ℕ) → p (getD l j d) ≡ true) → all p l ≡ true
   cell-all p l d h = all-is-from p 0 l ∙ cell-from (λ _ x. p x) l d h
 
+  -- a cell is a member, and one of the first n a member of those
+  pub cell-in : (l : List A) (d : A) (i : ℕ) → i < length l → In (getD l i d) l
+  cell-in [] d i h = absurd (omega arith)
+  cell-in (x ∷ l) d zero h = first
+  cell-in (x ∷ l) d (suc i) h = later (cell-in l d i (omega arith))
+
+  pub cell-in-take : (l : List A) (d : A) (n i : ℕ) → i < n → i < length l → In (getD l i d) (take n l)
+  cell-in-take l d zero i h k = absurd (omega arith)
+  cell-in-take [] d (suc n) i h k = absurd (omega arith)
+  cell-in-take (x ∷ l) d (suc n) zero h k = first
+  cell-in-take (x ∷ l) d (suc n) (suc i) h k = later (cell-in-take l d n i (omega arith) (omega arith))
+
+  pub in-take-cell : (l : List A) (d : A) (n : ℕ) {a : A} → In a (take n l) → (i : ℕ) × (i < n) × (a ≡ getD l i d)
+  in-take-cell l d zero i = in-none i
+  in-take-cell [] d (suc n) i = in-none i
+  in-take-cell (x ∷ l) d (suc n) first = (0, omega arith, refl)
+  in-take-cell (x ∷ l) d (suc n) (later i) = let r = in-take-cell l d n i in (suc (r .0), omega (arith, r .1), r .2)
+
   -- ---- one cell changed
 
   pub length-modify : (l : List A) (i : ℕ) (f : A → A) → length (modify l i f) ≡ length l
@@ -152,9 +188,24 @@ module _ {A : Type 0} where
   modify-here (x ∷ l) zero f d h = refl
   modify-here (x ∷ l) (suc i) f d h = modify-here l i f d (omega arith)
 
+  -- a cell that is not there is no exception where f leaves the default
+  pub modify-any : (l : List A) (i : ℕ) (f : A → A) (d : A) → f d ≡ d → getD (modify l i f) i d ≡ f (getD l i d)
+  unfolding modify
+  modify-any [] i f d h = sym h
+  modify-any (x ∷ l) zero f d h = refl
+  modify-any (x ∷ l) (suc i) f d h = modify-any l i f d h
+
+  pub none-altered : (q : A → Bool) (f : A → List A) → alter q f [] ≡ []
+  unfolding alter
+  none-altered q f = refl
+
 -- ---- mapped
 
 module _ {A B : Type 0} (f : A → B) where
+  pub map-append : (l m : List A) → map f (l ++ m) ≡ map f l ++ map f m
+  map-append [] m = refl
+  map-append (a ∷ l) m = ap (f a ∷_) (map-append l m)
+
   pub in-map : {a : A} {l : List A} → In a l → In (f a) (map f l)
   in-map first = first
   in-map (later i) = later (in-map i)

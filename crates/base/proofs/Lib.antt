@@ -6,6 +6,7 @@ pub mod Lists
 pub mod Cells
 pub mod Queues
 pub mod Totals
+pub mod Sifted
 pub mod Walks
 pub mod Orders
 pub mod Padded

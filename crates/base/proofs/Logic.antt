@@ -1,12 +1,12 @@
 -- Tests taken apart: a case split that keeps its equation, and what a true or false test says of its parts.
-use Prim.Native.Nat.{ℕ, suc, _<_}
+use Prim.Native.Nat.{ℕ, _<_, _≤_}
 use mathlib.Core.Path.{_≡_, refl, ap, sym, _∙_}
-use mathlib.Core.Bool.{Bool, true, false, cond, not, _&&_, _||_}
+use mathlib.Core.Bool.{Bool, true, false, _&&_, _||_}
 use mathlib.Core.Logic.{_⊎_, inl, inr}
 use mathlib.Core.Option.{Option, none, some}
 use native.Mathlib.Omega.{arith}
-use borrow.Author.Tests.{eqb-true, eqb-false}
-use lib.Dec.{eqb}
+use borrow.Author.Tests.{eqb-true, eqb-false, ltb-true, ltb-false}
+use lib.Dec.{eqb, ltb}
 
 -- by a test, with what it said
 pub split {ℓ} : {P : Type ℓ} (b : Bool) → (b ≡ true → P) → (b ≡ false → P) → P
@@ -26,6 +26,9 @@ both b y n = true-false (sym y ∙ n)
 
 pub equal? : (m n : ℕ) → (m ≡ n) ⊎ (m ≡ n → ⊥)
 equal? m n = split (eqb m n) (λ e. inl (eqb-true m n e)) (λ e. inr (eqb-false m n e))
+
+pub less-or-same : (m n : ℕ) → m ≤ n → (m < n) ⊎ (m ≡ n)
+less-or-same m n h = split (ltb m n) (λ t. inl (ltb-true m n t)) (λ f. let l = ltb-false m n f in inr (omega arith))
 
 pub and-true : (a b : Bool) → a && b ≡ true → (a ≡ true) × (b ≡ true)
 and-true true b h = (refl, h)

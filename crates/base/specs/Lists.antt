@@ -1,4 +1,4 @@
--- Lists of any element type: the first that passes a test, its removal or change, counts, one cell changed, equal parts.
+-- Lists of any element type: the first that passes a test, its removal or change, all that pass, counts, one cell changed, equal parts.
 use Prim.Native.Nat.{ℕ, zero, suc}
 use mathlib.Core.List.{List, [], _∷_, _++_}
 use mathlib.Core.Bool.{Bool, true, false, cond, _&&_, _||_}
@@ -15,6 +15,11 @@ module _ {A : Type 0} where
   unfoldable pub alter : (A → Bool) → (A → List A) → List A → List A
   alter p f [] = []
   alter p f (x ∷ xs) = cond (p x) (f x ++ xs) (x ∷ alter p f xs)
+
+  -- those that pass p, in their order
+  unfoldable pub only : (A → Bool) → List A → List A
+  only p [] = []
+  only p (x ∷ xs) = cond (p x) (x ∷ only p xs) (only p xs)
 
   -- how many pass p
   unfoldable pub count : (A → Bool) → List A → ℕ

@@ -7,6 +7,7 @@ use mathlib.Core.Option.{some}
 use native.Mathlib.Omega.{arith}
 use borrow.Author.Tests.{ltb-true, ltb-false, lt-ltb, le-ltb, eqb-true, eqb-false, eq-eqb, ne-eqb}
 use Rattle.base.proofs.Logic.{split}
+use Rattle.chassis.specs.declared.Agent.{Agent}
 use Rattle.chassis.specs.declared.Chan.{Chan}
 use Rattle.chassis.specs.declared.Table.{Table}
 use Rattle.chassis.specs.Channels.{chan-count, has-chan, is-master, bridge-of, goes-forth, out-bus, in-bus, opposite, first-bus, second-bus}
@@ -15,6 +16,9 @@ use Rattle.chassis.specs.Routes.{channel-of}
 
 pub chan-path : {M N : Chan} → M .0 ≡ N .0 → M ≡ N
 chan-path p = λ i. record { 0 = p i }
+
+pub agent-path : {a b : Agent} → a .0 ≡ b .0 → a ≡ b
+agent-path p = λ i. record { 0 = p i }
 
 -- ---- the channel of a hop
 
@@ -81,7 +85,7 @@ module _ (T : Table) where
     pub out : in-bus T N ≡ some (out-bus T (opposite T N))
     pub into : in-bus T (opposite T N) ≡ some (out-bus T N)
 
-  turned : (g : ℕ) (d : Bool) → (hop g (not (not d)) ≡ hop g d) × (to T (hop g (not d)) ≡ from T (hop g d)) × (from T (hop g (not d)) ≡ to T (hop g d))
+  pub turned : (g : ℕ) (d : Bool) → (hop g (not (not d)) ≡ hop g d) × (to T (hop g (not d)) ≡ from T (hop g d)) × (from T (hop g (not d)) ≡ to T (hop g d))
   turned g true = (refl, refl, refl)
   turned g false = (refl, refl, refl)
 

@@ -9,4 +9,6 @@ pub mod Passing
 pub mod Steps
 pub mod Hops
 pub mod OnTheWay
+pub mod Along
+pub mod TurnsBack
 pub mod Numbered

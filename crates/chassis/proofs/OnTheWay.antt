@@ -176,15 +176,18 @@ module _ (T : Table) (ok : table-passes T ≡ true) where
   unfolding on-the-way
   start-on-way m t = rw (same-chan-one (master-channel m))
 
+  pub master-there : (m : Agent) → has-agent T m ≡ true → has-chan T (master-channel m) ≡ true
+  master-there m a = lt-ltb (m .0) (chan-count T) (omega (arith, ltb-true (m .0) (T .agents) a))
+
   place-there : (m t : Agent) (N : Chan) → has-agent T m ≡ true → Place m t N → has-chan T N ≡ true
-  place-there m t N a (starts e) = rw e (lt-ltb (m .0) (chan-count T) (omega (arith, ltb-true (m .0) (T .agents) a)))
+  place-there m t N a (starts e) = rw e (master-there m a)
   place-there m t N a (crosses g d i e) =
       rw e (hop-has-chan T g d (rest-of (T .bridges) (home T m) (home T t) (hops-of m t) (led m t) i .3))
 
   pub on-way-there : (m t : Agent) (N : Chan) → has-agent T m ≡ true → on-the-way T m t N ≡ true → has-chan T N ≡ true
   on-way-there m t N a h = place-there m t N a (place m t N h)
 
-  master-out : (m : Agent) → has-agent T m ≡ true → out-bus T (master-channel m) ≡ home T m
+  pub master-out : (m : Agent) → has-agent T m ≡ true → out-bus T (master-channel m) ≡ home T m
   unfolding out-bus
   master-out m a = rw a
 

@@ -3,6 +3,7 @@
 use Prim.Native.Nat.{ℕ, zero, suc, _+_, _*_}
 use mathlib.Core.Bool.{Bool, true, false, cond, _&&_, _||_}
 use mathlib.Core.List.{List, [], _∷_, _++_, map}
+use lib.ListN.{length, getD}
 use Rattle.base.specs.Lists.{all, any, from-to}
 use Rattle.chassis.specs.declared.Agent.{Agent}
 use Rattle.chassis.specs.declared.Bus.{Bus}
@@ -70,6 +71,17 @@ next-place T N t = first-place T (way T (out-bus T N) (home T t))
 -- the bridge channels of the way from agent m to agent t
 abbrev pub bridge-channels : Table → Agent → Agent → List Chan
 bridge-channels T m t = map (channel-of T) (way T (home T m) (home T t))
+
+abbrev pub bridges-between : Table → Agent → Agent → ℕ
+bridges-between T m t = length (bridge-channels T m t)
+
+-- all channels of that way, the master's first
+abbrev pub way-channels : Table → Agent → Agent → List Chan
+way-channels T m t = master-channel m ∷ bridge-channels T m t
+
+-- channel i of a way, counted from 0
+abbrev pub nth : List Chan → ℕ → Chan
+nth w i = getD w i (chan 0)
 
 -- is N one of these channels
 abbrev pub among : Chan → List Chan → Bool

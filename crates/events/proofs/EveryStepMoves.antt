@@ -1,6 +1,6 @@
 -- Every accepted step moves something: no model accepts a record and leaves the state as it was.
 -- A begin raises a count. A commit leaves one uncommitted entry fewer in N; post, complete and the drops one of the entry's kind; a latch one more in N1.
-use Prim.Native.Nat.{ℕ, zero, suc, _+_}
+use Prim.Native.Nat.{ℕ, suc, _+_}
 use native.Mathlib.Omega.{arith}
 use mathlib.Core.Path.{_≡_, refl, sym, ap, subst⁻¹, _∙_}
 use mathlib.Core.Bool.{Bool, true, false, cond, not, _&&_}
@@ -12,7 +12,7 @@ use Rattle.base.specs.Lists.{find, alter, count, modify, or-else}
 use Rattle.base.proofs.Logic.{split, and-true, both, none-some}
 use Rattle.base.proofs.Grounds.{clear}
 use Rattle.base.proofs.Lists.{found-passes, is-there}
-use Rattle.base.proofs.Cells.{modify-every, modify-here, length-modify}
+use Rattle.base.proofs.Cells.{modify-every, modify-here, modify-any, none-altered, length-modify}
 use Rattle.base.proofs.Queues.{count-add, getD-modify-other}
 use Rattle.chassis.specs.declared.Agent.{Agent}
 use Rattle.chassis.specs.declared.Chan.{Chan}
@@ -72,17 +72,6 @@ module _ {A : Type 0} (p : A → Bool) where
   none-more : (l : List A) (x : A) → p x ≡ false → count p (l ++ (x ∷ [])) ≡ count p l
   unfolding count
   none-more l x h = let e = rw h at (count-add p l (x ∷ [])) in omega arith
-
--- a cell that is not there is no exception where f leaves the default
-modify-any : {A : Type 0} (l : List A) (i : ℕ) (f : A → A) (d : A) → f d ≡ d → getD (modify l i f) i d ≡ f (getD l i d)
-unfolding modify
-modify-any [] i f d h = sym h
-modify-any (x ∷ l) zero f d h = refl
-modify-any (x ∷ l) (suc i) f d h = modify-any l i f d h
-
-none-altered : {A : Type 0} (q : A → Bool) (f : A → List A) → alter q f [] ≡ []
-unfolding alter
-none-altered q f = refl
 
 -- ---- how many in N pass
 

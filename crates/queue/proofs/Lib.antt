@@ -1,5 +1,6 @@
 -- Laws of one channel.
 pub mod Plainly
+pub mod Names
 pub mod Turns
 pub mod Placed
 pub mod Packed

@@ -19,7 +19,7 @@ use Rattle.queue.specs.Queues.{oldest, stands, behind-P, first-C, fillin
 use Rattle.queue.specs.code.Changes.{look-of, dull}
 
 -- a transaction is its master and its number: no other master's, whatever the target
-transaction-path : {t u : Transaction} → t .master .0 ≡ u .master .0 → t .number ≡ u .number → t ≡ u
+pub transaction-path : {t u : Transaction} → t .master .0 ≡ u .master .0 → t .number ≡ u .number → t ≡ u
 transaction-path p q = λ i. record { master = record { 0 = p i }; number = q i }
 
 pub same-is-one : (t u : Transaction) → same-transaction t u ≡ true → t ≡ u

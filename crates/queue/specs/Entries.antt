@@ -27,9 +27,13 @@ is-kind k x = eqb (x .kind) k
 abbrev pub same-transaction : Transaction → Transaction → Bool
 same-transaction t u = same-agent (t .master) (u .master) && eqb (t .number) (u .number)
 
+-- of that transaction, whatever its kind
+abbrev pub is-of : Transaction → Entry → Bool
+is-of t x = same-transaction (x .transaction) t
+
 -- of that kind and transaction
 unfoldable pub is-named : ℕ → Transaction → Entry → Bool
-is-named k t x = is-kind k x && same-transaction (x .transaction) t
+is-named k t x = is-kind k x && is-of t x
 
 -- the entry with its committed mark
 unfoldable pub marked : Entry → Entry

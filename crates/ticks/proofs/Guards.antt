@@ -14,7 +14,7 @@ use Rattle.base.proofs.Queues.{find-add, none-add, find-alter, none-alter, coun
 use Rattle.base.proofs.Orders.{All, all-both}
 use Rattle.chassis.specs.declared.Agent.{Agent}
 use Rattle.chassis.specs.declared.Chan.{Chan}
-use Rattle.chassis.proofs.Hops.{chan-path}
+use Rattle.chassis.proofs.Hops.{chan-path, agent-path}
 use Rattle.queue.specs.declared.Entry.{Entry}
 use Rattle.queue.specs.Queues.{filling}
 use Rattle.network.specs.Rooms.{Room}
@@ -77,9 +77,6 @@ cell P l i j f d k h =
 pub at-one : {X Y : Chan} {B : Type 0} → Elsewhere X Y B → X .0 ≡ Y .0 → B
 at-one (inl n) e = absurd (n (chan-path e))
 at-one (inr b) e = b
-
-agent-path : {a b : Agent} → a .0 ≡ b .0 → a ≡ b
-agent-path p = λ i. record { 0 = p i }
 
 none-in : (p : Entry → Bool) (x : Entry) → p x ≡ false → find p (x ∷ []) ≡ none
 unfolding find
