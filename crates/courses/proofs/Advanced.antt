@@ -19,6 +19,7 @@ use Rattle.chassis.specs.Routes.{next-place, bridges-between, way-channels, nth
 use Rattle.chassis.proofs.Counts.{counts}
 use Rattle.chassis.proofs.Hops.{chan-path}
 use Rattle.chassis.proofs.Passing.{passed}
+use Rattle.chassis.proofs.Along.{nth-there, nth-next, last-next, nth-once, nth-no-master, opposite-there}
 use Rattle.queue.specs.declared.Transaction.{Transaction}
 use Rattle.queue.specs.declared.Entry.{Entry}
 use Rattle.queue.specs.Entries.{P, R, C, is-named, marked, as-kind, gone, marking}
@@ -34,7 +35,6 @@ use Rattle.courses.specs.Stages.{posted, asked, answered, ended, complet
 use Rattle.courses.specs.Courses.{requests, pieces, entry-of}
 use Rattle.courses.proofs.Held.{meets}
 use Rattle.courses.proofs.Edited.{Shows, At, shows-add, shows-change}
-use Rattle.chassis.proofs.Along.{nth-there, nth-next, last-next, nth-once, nth-no-master, opposite-there}
 use Rattle.courses.proofs.Standing.{changed-there, own-name, meets-own, meets-no-kind, meets-no-place, in-requests, requests-suc}
 
 edit-long : (d : Edit) (u : Net) → length ((edit d u) .chans) ≡ length (u .chans)

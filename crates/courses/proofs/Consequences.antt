@@ -16,6 +16,7 @@ use Rattle.chassis.specs.declared.Table.{Table}
 use Rattle.chassis.specs.declared.NextPlace.the-variants.{Target, Through}
 use Rattle.chassis.specs.Channels.{has-agent, is-master, opposite}
 use Rattle.chassis.specs.Routes.{bridges-between, way-channels, nth}
+use Rattle.chassis.proofs.Along.{nth-once, opposite-once}
 use Rattle.queue.specs.declared.Transaction.{Transaction}
 use Rattle.queue.specs.declared.Entry.{Entry}
 use Rattle.queue.specs.Entries.{P, R, C}
@@ -28,12 +29,11 @@ use Rattle.events.specs.Tests.{entry-at, ahead, no-such-entry}
 use Rattle.events.specs.Grounds.{named-grounds, grounds, Accepted}
 use Rattle.courses.specs.Stages.{Stage, asked, answered, has-begun, Fits, Moves, commits, latches, reaches, returns, drops-request}
 use Rattle.courses.specs.Courses.{Course, entry-of, OnCourse, NamesR, commit, latch, complete, drop}
-use Rattle.chassis.proofs.Along.{nth-once, opposite-once}
 use Rattle.courses.proofs.Placed.{AtR, last, before, behind, AtC, back, AtP, at-R, at-C, at-P}
 use Rattle.courses.proofs.Placed as placed
 use Rattle.courses.proofs.Advanced.{ahead-on, ahead-last}
 use Rattle.courses.proofs.Own.{own-commit, own-latch, own-complete, own-drop-request}
-use Rattle.courses.proofs.Reaching.{master-there, begun-there}
+use Rattle.courses.proofs.Reaching.{begun-there}
 
 -- the chain ends in channel j
 data Ends (j : ℕ) : Stage → Type 0 where
@@ -123,18 +123,26 @@ module _ (s : Net) (g : Good s) (t : Transaction) (c : Course) (o : OnCourse s t
 
   -- ---- the last R of the chain
 
-  named-R : (N : Chan) (e : Event) → NamesR N t e → Accepted s e → (has-agent T (t .master) ≡ true) × (no-such-entry s R N t ≡ false)
+  names-R : (N : Chan) (e : Event) → NamesR N t e → Accepted s e → AtR s t a (c .write) N h
   unfolding grounds named-grounds
-  named-R N _ commit ok = let r = clear (grounds s (Commit N t)) ok in (master-there s g N t (r .0), r .1 .0)
-  named-R N _ latch ok = let r = clear (grounds s (Latch N t)) ok in (master-there s g N t (r .0), r .1 .0)
-  named-R N _ complete ok = let r = clear (grounds s (Complete N t)) ok in (master-there s g N t (r .0), r .1 .0)
-  named-R N _ drop ok = let r = clear (grounds s (DropRequest N t)) ok in (master-there s g N t (r .0), r .1 .0)
+  names-R N _ commit ok = at-R s t a (c .write) N h (o .stands) (clear (grounds s (Commit N t)) ok .1 .0)
+  names-R N _ latch ok = at-R s t a (c .write) N h (o .stands) (clear (grounds s (Latch N t)) ok .1 .0)
+  names-R N _ complete ok = at-R s t a (c .write) N h (o .stands) (clear (grounds s (Complete N t)) ok .1 .0)
+  names-R N _ drop ok = at-R s t a (c .write) N h (o .stands) (clear (grounds s (DropRequest N t)) ok .1 .0)
 
-  moved-R : (has : has-agent T (t .master) ≡ true) (N : Chan) (e : Event) → NamesR N t e → Accepted s e → (i : Stage) × Moves T w k t h e i
-  moved-R has N _ commit ok = let m = own-commit s g t a (c .write) has N h (o .stands) (o .fits) ok in (m .to, m .by)
-  moved-R has N _ latch ok = let m = own-latch s g t a (c .write) has N h (o .stands) (o .fits) ok in (m .to, m .by)
-  moved-R has N _ complete ok = let m = own-complete s g t a (c .write) has N h (o .stands) (o .fits) ok in (m .to, m .by)
-  moved-R has N _ drop ok = let m = own-drop-request s g t a (c .write) has N h (o .stands) (o .fits) ok in (m .to, m .by)
+  moves-R : (N : Chan) (e : Event) → NamesR N t e → Accepted s e → (i : Stage) × Moves T w k t h e i
+  moves-R N _ commit ok = let m = own-commit s g t a (c .write) h (o .stands) (o .fits) N ok in (m .to, m .by)
+  moves-R N _ latch ok = let m = own-latch s g t a (c .write) h (o .stands) (o .fits) N ok in (m .to, m .by)
+  moves-R N _ complete ok = let m = own-complete s g t a (c .write) h (o .stands) (o .fits) N ok in (m .to, m .by)
+  moves-R N _ drop ok = let m = own-drop-request s g t a (c .write) h (o .stands) (o .fits) N ok in (m .to, m .by)
+
+  has-master : {N : Chan} → AtR s t a (c .write) N h → has-agent T (t .master) ≡ true
+  has-master r = begun-there s g t c o (begun-R r)
+    where
+      begun-R : {N : Chan} {i : Stage} → AtR s t a (c .write) N i → has-begun i ≡ true
+      begun-R (last j b e y) = refl
+      begun-R (before j b n l e y) = refl
+      begun-R (behind j n l e y) = refl
 
   R-reach : (j : ℕ) (N : Chan) {i : Stage} → Ends j i → AtR s t a (c .write) N i → (n : ℕ) × (n ≤ j) × (N ≡ nth w n)
   R-reach j N (asks b) (last _ _ e y) = (j, le-refl j, e)
@@ -151,8 +159,9 @@ module _ (s : Net) (g : Good s) (t : Transaction) (c : Course) (o : OnCourse s t
   ends-fit j answers f = omega arith
 
   -- what comes after the last channel of the chain
-  beyond : (has : has-agent T (t .master) ≡ true) (N X : Chan) (j : ℕ) → N ≡ nth w j → Ends j h → AtR s t a (c .write) N h → ahead s R N t ≡ Through X → stands R t (waiting s X) ≡ true → ⊥
-  beyond has N X j e d r p y =
+  beyond : (N X : Chan) (j : ℕ) → N ≡ nth w j → Ends j h → AtR s t a (c .write) N h → ahead s R N t ≡ Through X → stands R t (waiting s X) ≡ true → ⊥
+  beyond N X j e d r p y =
+      let has = has-master r in
       let q = R-entry N r in
       let q′ : entry-at s R (nth w j) t ≡ x R (q .0) = subst (λ (M : Chan). entry-at s R M t ≡ x R (q .0)) e (q .1) in
       let p′ : ahead s R (nth w j) t ≡ Through X = subst (λ (M : Chan). ahead s R M t ≡ Through X) e p in
@@ -172,14 +181,12 @@ module _ (s : Net) (g : Good s) (t : Transaction) (c : Course) (o : OnCourse s t
   only-the-last N X e f ok p =
       split (stands R t (waiting s X))
       (λ y.
-      let n = named-R N e f ok in
-      let m = moved-R (n .0) N e f ok in
-      let d = ends-there N e f (m .1) in
-      absurd (beyond (n .0) N X (d .0) (d .1) (d .2) (at-R s t a (c .write) N h (o .stands) (n .1)) p y))
+      let d = ends-there N e f (moves-R N e f ok .1) in
+      absurd (beyond N X (d .0) (d .1) (d .2) (names-R N e f ok) p y))
       (λ z. z)
 
   pub no-latch : (N M : Chan) → stands C t (waiting s N) ≡ true → Accepted s (Latch M t) → ⊥
-  no-latch N M y ok = C-no-latch N M (c-here N y) (moved-R (named-R M (Latch M t) latch ok .0) M (Latch M t) latch ok .1)
+  no-latch N M y ok = C-no-latch N M (c-here N y) (moves-R M (Latch M t) latch ok .1)
 
   -- ---- no R beside its C
 
@@ -190,9 +197,4 @@ module _ (s : Net) (g : Good s) (t : Transaction) (c : Course) (o : OnCourse s t
       omega arith
 
   pub not-behind-its-R : (N : Chan) → is-master T N ≡ false → stands R t (waiting s N) ≡ true → stands C t (waiting s (opposite T N)) ≡ true → ⊥
-  not-behind-its-R N m y z = behind-its-R (begun-there s g t c o (begun-R (r-here N y))) N (o .fits) m (r-here N y) (c-here (opposite T N) z)
-    where
-      begun-R : {N : Chan} {i : Stage} → AtR s t a (c .write) N i → has-begun i ≡ true
-      begun-R (last j b e y) = refl
-      begun-R (before j b n l e y) = refl
-      begun-R (behind j n l e y) = refl
+  not-behind-its-R N m y z = behind-its-R (has-master (r-here N y)) N (o .fits) m (r-here N y) (c-here (opposite T N) z)

@@ -23,6 +23,8 @@ use Rattle.chassis.specs.Routes.{way, channel-of, next-place, bridge-channels, 
 use Rattle.chassis.specs.Tables.{table-passes}
 use Rattle.chassis.proofs.OnTheWay.{home-there, out-there, next-is-target, master-out}
 use Rattle.chassis.proofs.Steps.{way-here}
+use Rattle.chassis.proofs.Along.{nth-there, nth-next, nth-no-master, opposite-out}
+use Rattle.chassis.proofs.TurnsBack.{StillAhead, entered-or-ahead, next-is-ahead, next-is-ahead-too}
 use Rattle.queue.specs.declared.Transaction.{Transaction}
 use Rattle.queue.specs.declared.Entry.{Entry}
 use Rattle.queue.specs.Entries.{P}
@@ -39,15 +41,14 @@ use Rattle.events.specs.Reached.{Reached, at-first, and-then}
 use Rattle.events.proofs.SoundStays.{reached-is-good, table-stays}
 use Rattle.courses.specs.Stages.{unbegun, posted, has-begun}
 use Rattle.courses.specs.Courses.{course, entry-of, OnCourse, transaction-of}
-use Rattle.chassis.proofs.Along.{nth-there, nth-next, nth-no-master, opposite-out}
-use Rattle.chassis.proofs.TurnsBack.{StillAhead, entered-or-ahead, next-is-ahead, next-is-ahead-too}
 use Rattle.courses.proofs.Placed.{AtP, at-P}
 use Rattle.courses.proofs.Placed as placed
 use Rattle.courses.proofs.Advanced.{ahead-is}
 use Rattle.courses.proofs.EachEdit.{untouched}
 use Rattle.courses.proofs.Reaching.{empty-course, begun-there}
 use Rattle.courses.proofs.OneStage.{one-stage}
-use Rattle.courses.proofs.Lined.{Came, stood, began, moved, came, number-of, two, Behind, blocked, begin-line, post-line, posted-at}
+use Rattle.courses.proofs.Came.{Came, stood, began, moved, came, posted-at}
+use Rattle.courses.proofs.Lined.{number-of, two, Behind, blocked, begin-line, post-line}
 
 -- t to a, and a later one of the same master to a′
 module _ (t : Transaction) (n : ℕ) (less : t .number < n) (a a′ : Agent) where

@@ -15,8 +15,8 @@ use Rattle.base.proofs.Cells.{In, first, later, in-none, in-cons}
 use Rattle.base.proofs.Queues.{count-add}
 use Rattle.chassis.specs.declared.Chan.{Chan}
 use Rattle.chassis.specs.Numbers.{same-chan}
-use Rattle.queue.specs.declared.Entry.{Entry}
 use Rattle.chassis.proofs.Hops.{chan-path}
+use Rattle.queue.specs.declared.Entry.{Entry}
 use Rattle.courses.specs.Pieces.{Piece, piece, held-in}
 
 pub held-append : (N : Chan) (L M : List Piece) → held-in N (L ++ M) ≡ held-in N L ++ held-in N M

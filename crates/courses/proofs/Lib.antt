@@ -13,5 +13,7 @@ pub mod Consequences
 pub mod Once
 pub mod OneStage
 pub mod Laws
+pub mod Came
 pub mod Lined
 pub mod Followed
+pub mod Trial

@@ -17,6 +17,7 @@ use Rattle.chassis.specs.Channels.{has-agent, opposite}
 use Rattle.chassis.specs.Routes.{bridges-between, way-channels, nth}
 use Rattle.chassis.specs.Tables.{within}
 use Rattle.chassis.proofs.Hops.{chan-path}
+use Rattle.chassis.proofs.Along.{nth-once, never-turned}
 use Rattle.queue.specs.declared.Transaction.{Transaction}
 use Rattle.queue.specs.declared.Entry.{Entry}
 use Rattle.queue.specs.Entries.{P, R, C, is-of}
@@ -27,7 +28,6 @@ use Rattle.courses.specs.Pieces.{Piece, piece, held-in}
 use Rattle.courses.specs.Stages.{Stage, unbegun, posted, asked, answered, ended, has-begun, Fits}
 use Rattle.courses.specs.Courses.{requests, pieces, Course, entry-of, OnCourse}
 use Rattle.courses.proofs.Held.{held-no, in-held, none-held, none-counted, one-counted, both-counted}
-use Rattle.chassis.proofs.Along.{nth-once, never-turned}
 use Rattle.courses.proofs.Standing.{in-requests, requests-suc}
 use Rattle.courses.proofs.Reaching.{not-begun, begun-there}
 

@@ -10,6 +10,7 @@ use Rattle.chassis.specs.declared.Chan.{Chan}
 use Rattle.chassis.specs.declared.Table.{Table}
 use Rattle.chassis.specs.Channels.{has-agent, opposite}
 use Rattle.chassis.specs.Routes.{bridges-between, way-channels, nth}
+use Rattle.chassis.proofs.Along.{nth-once, opposite-once}
 use Rattle.queue.specs.declared.Transaction.{Transaction}
 use Rattle.queue.specs.declared.Entry.{Entry}
 use Rattle.queue.specs.Entries.{P, R}
@@ -19,7 +20,6 @@ use Rattle.network.proofs.Good.{Good}
 use Rattle.events.specs.Tests.{entry-at}
 use Rattle.courses.specs.Stages.{Stage, unbegun, posted, asked, answered, ended, has-begun, Fits}
 use Rattle.courses.specs.Courses.{Course, entry-of, OnCourse}
-use Rattle.chassis.proofs.Along.{nth-once, opposite-once}
 use Rattle.courses.proofs.Edited.{At}
 use Rattle.courses.proofs.Placed.{AtR, last, before, behind, AtC, back, AtP, only, at-R, at-C, at-P, posted-stands, asked-stands, answered-stands, answer-stands}
 use Rattle.courses.proofs.Reaching.{not-begun, begun-there}

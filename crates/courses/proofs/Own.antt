@@ -3,17 +3,19 @@
 use Prim.Native.Nat.{ℕ, zero, suc, _≤_, _<_}
 use native.Mathlib.Omega.{arith}
 use mathlib.Core.Path.{_≡_, refl, sym, ap, subst, subst⁻¹, _∙_}
-use mathlib.Core.Bool.{Bool, true, false}
+use mathlib.Core.Bool.{Bool, true, false, not, _&&_}
 use mathlib.Core.Logic.{_⊎_, inl, inr, ⊎-elim}
 use mathlib.Core.List.{List}
-use Rattle.base.proofs.Logic.{both, or-false, less-or-same}
+use borrow.Author.Tests.{not-false}
+use Rattle.base.proofs.Logic.{both, and-true, or-false, less-or-same}
 use Rattle.base.proofs.Grounds.{clear}
 use Rattle.chassis.specs.declared.Agent.{Agent}
 use Rattle.chassis.specs.declared.Chan.{Chan}
 use Rattle.chassis.specs.declared.Table.{Table}
 use Rattle.chassis.specs.declared.NextPlace.the-variants.{Target, Through}
-use Rattle.chassis.specs.Channels.{has-agent, is-master, opposite}
+use Rattle.chassis.specs.Channels.{has-agent, has-chan, is-master, opposite}
 use Rattle.chassis.specs.Routes.{bridges-between, way-channels, nth}
+use Rattle.chassis.proofs.Along.{opposite-once}
 use Rattle.queue.specs.declared.Transaction.{Transaction}
 use Rattle.queue.specs.declared.Entry.{Entry}
 use Rattle.queue.specs.Entries.{P, R, C}
@@ -28,7 +30,6 @@ use Rattle.events.specs.Grounds.{named-grounds, grounds, Accepted}
 use Rattle.events.specs.Effects.{after}
 use Rattle.courses.specs.Stages.{Stage, posted, asked, answered, ended, has-begun, Fits, completed, Moves, posts-on, arrives, commits, latches, reaches, returns, drops-request, drops-completion}
 use Rattle.courses.specs.Courses.{entry-of}
-use Rattle.chassis.proofs.Along.{opposite-once}
 use Rattle.courses.proofs.Edited.{At}
 use Rattle.courses.proofs.Placed.{AtR, last, before, behind, AtC, back, AtP, only, at-R, at-C, at-P, asked-stands, answered-stands, answer-stands}
 use Rattle.courses.proofs.Advanced.{commit-at, post-at, post-last, latch-at, complete-last, complete-at, drop-request-at, drop-completion-at, ahead-on, ahead-last}
@@ -37,9 +38,17 @@ completed-fits : (j k : ℕ) → j ≤ k → Fits k (completed j)
 completed-fits zero k h = tt
 completed-fits (suc j) k h = h
 
-pub completed-begun : (j : ℕ) → has-begun (completed j) ≡ true
+completed-begun : (j : ℕ) → has-begun (completed j) ≡ true
 completed-begun zero = refl
 completed-begun (suc j) = refl
+
+-- by e the transaction moves from h
+pub record Moved (s : Net) (t : Transaction) (a : Agent) (write : Bool) (e : Event) (h : Stage) : Type 0 where
+  pub to : Stage
+  pub now : At (s .table) t a write (after s e) to
+  pub fits : Fits (bridges-between (s .table) (t .master) a) to
+  pub by : Moves (s .table) (way-channels (s .table) (t .master) a) (bridges-between (s .table) (t .master) a) t h e to
+  pub begun : has-begun to ≡ true
 
 module _ (s : Net) (g : Good s) (t : Transaction) (a : Agent) (write : Bool) (has : has-agent (s .table) (t .master) ≡ true) where
   abbrev T : Table
@@ -56,13 +65,6 @@ module _ (s : Net) (g : Good s) (t : Transaction) (a : Agent) (write : Bool) (ha
 
   -- ---- each kind
 
-  pub record Moved (e : Event) (h : Stage) : Type 0 where
-    pub to : Stage
-    pub now : At T t a write (after s e) to
-    pub fits : Fits k to
-    pub by : Moves T w k t h e to
-    pub begun : has-begun to ≡ true
-
   -- its entry there is the entry at channel i
   at-nth : (c : ℕ) (N : Chan) (i : ℕ) {y : Entry} → N ≡ nth w i → entry-at s c N t ≡ y → entry-at s c (nth w i) t ≡ y
   at-nth c N i {y} e h = subst (λ (M : Chan). entry-at s c M t ≡ y) e h
@@ -75,7 +77,7 @@ module _ (s : Net) (g : Good s) (t : Transaction) (a : Agent) (write : Bool) (ha
 
   -- commit
 
-  commit-last : (N : Chan) (j : ℕ) (b : Bool) → b ≡ false → N ≡ nth w j → At T t a write s (asked j b) → j ≤ k → Moved (Commit N t) (asked j b)
+  commit-last : (N : Chan) (j : ℕ) (b : Bool) → b ≡ false → N ≡ nth w j → At T t a write s (asked j b) → j ≤ k → Moved s t a write (Commit N t) (asked j b)
   commit-last N j true z e o l = absurd (both true refl z)
   commit-last N j false z e o l = record {
     to = asked j true;
@@ -85,20 +87,14 @@ module _ (s : Net) (g : Good s) (t : Transaction) (a : Agent) (write : Bool) (ha
     begun = refl;
   }
 
-  commit-by : (N : Chan) (h : Stage) → At T t a write s h → Fits k h → is-committed s N t ≡ false → AtR s t a write N h → Moved (Commit N t) h
+  commit-by : (N : Chan) (h : Stage) → At T t a write s h → Fits k h → is-committed s N t ≡ false → AtR s t a write N h → Moved s t a write (Commit N t) h
   commit-by N _ o f c (last j b e y) = commit-last N j b (uncommitted N b c y) e o f
   commit-by N _ o f c (before j b i l e y) = committed N c y
   commit-by N _ o f c (behind j i l e y) = committed N c y
 
-  pub own-commit : (N : Chan) (h : Stage) → At T t a write s h → Fits k h → Accepted s (Commit N t) → Moved (Commit N t) h
-  unfolding grounds named-grounds
-  own-commit N h o f ok =
-      let r = clear (grounds s (Commit N t)) ok in
-      commit-by N h o f (r .1 .1 .0) (at-R s t a write N h o (r .1 .0))
-
   -- post
 
-  post-by : (N : Chan) (h : Stage) → At T t a write s h → Fits k h → AtP s t a write N h → Moved (Post N t) h
+  post-by : (N : Chan) (h : Stage) → At T t a write s h → Fits k h → AtP s t a write N h → Moved s t a write (Post N t) h
   post-by N _ o f (only i e y) =
       ⊎-elim
       (λ l. record {
@@ -108,7 +104,7 @@ module _ (s : Net) (g : Good s) (t : Transaction) (a : Agent) (write : Bool) (ha
         by = posts-on N i e l;
         begun = refl;
       })
-      (λ q. subst⁻¹ (λ (i : ℕ). At T t a write s (posted i) → N ≡ nth w i → Moved (Post N t) (posted i)) q
+      (λ q. subst⁻¹ (λ (i : ℕ). At T t a write s (posted i) → N ≡ nth w i → Moved s t a write (Post N t) (posted i)) q
       (λ o e. record {
         to = ended;
         now = subst⁻¹ (λ (M : Chan). At T t a write (after s (Post M t)) ended) e (post-last s g t a write has (at-nth P N k e y) o);
@@ -119,10 +115,6 @@ module _ (s : Net) (g : Good s) (t : Transaction) (a : Agent) (write : Bool) (ha
       o e)
       (less-or-same i k f)
 
-  pub own-post : (N : Chan) (h : Stage) → At T t a write s h → Fits k h → Accepted s (Post N t) → Moved (Post N t) h
-  unfolding grounds named-grounds
-  own-post N h o f ok = post-by N h o f (at-P s t a write N h o (clear (grounds s (Post N t)) ok .1 .0))
-
   -- latch
 
   not-latched : {A : Type 0} (N : Chan) (i : ℕ) → i < k → N ≡ nth w i → (b : Bool) → entry-at s R N t ≡ x R b → latched-already s t (ahead s R N t) ≡ false
@@ -132,7 +124,7 @@ module _ (s : Net) (g : Good s) (t : Transaction) (a : Agent) (write : Bool) (ha
       let q = or-false (stands R t (waiting s (nth w (suc i)))) (tests.answered s t (nth w (suc i))) (sym (ap (latched-already s t) p) ∙ h) in
       absurd (⊎-elim (λ z. both (stands R t (waiting s (nth w (suc i)))) z (q .0)) (λ z. both (tests.answered s t (nth w (suc i))) z (q .1)) z)
 
-  latch-by : (N : Chan) (h : Stage) → At T t a write s h → Fits k h → is-target (ahead s R N t) ≡ false → latched-already s t (ahead s R N t) ≡ false → AtR s t a write N h → Moved (Latch N t) h
+  latch-by : (N : Chan) (h : Stage) → At T t a write s h → Fits k h → is-target (ahead s R N t) ≡ false → latched-already s t (ahead s R N t) ≡ false → AtR s t a write N h → Moved s t a write (Latch N t) h
   latch-by N _ o f d c (last j b e y) =
       ⊎-elim
       (λ l. record {
@@ -155,12 +147,6 @@ module _ (s : Net) (g : Good s) (t : Transaction) (a : Agent) (write : Bool) (ha
       (λ q. inr (subst⁻¹ (λ (i : ℕ). tests.answered s t (nth w (suc i)) ≡ true) q (answer-stands s t a write j o)))
       (less-or-same i j l))
 
-  pub own-latch : (N : Chan) (h : Stage) → At T t a write s h → Fits k h → Accepted s (Latch N t) → Moved (Latch N t) h
-  unfolding grounds named-grounds
-  own-latch N h o f ok =
-      let r = clear (grounds s (Latch N t)) ok in
-      latch-by N h o f (r .1 .1 .0) (r .1 .1 .1 .1 .0) (at-R s t a write N h o (r .1 .0))
-
   -- complete
 
   -- the matching C
@@ -176,11 +162,11 @@ module _ (s : Net) (g : Good s) (t : Transaction) (a : Agent) (write : Bool) (ha
   the-one : (j : ℕ) (Z : Chan) → AtC s t a write Z (answered j) → Z ≡ opposite T (nth w (suc j))
   the-one j Z (back _ e) = e
 
-  complete-by : (N : Chan) (h : Stage) → At T t a write s h → Fits k h → unanswered s t (ahead s R N t) ≡ false → AtR s t a write N h → Moved (Complete N t) h
+  complete-by : (N : Chan) (h : Stage) → At T t a write s h → Fits k h → unanswered s t (ahead s R N t) ≡ false → AtR s t a write N h → Moved s t a write (Complete N t) h
   complete-by N _ o f c (last j b e y) =
       ⊎-elim
       (λ l. none-asked j b (opposite T (nth w (suc j))) (at-C s t a write (opposite T (nth w (suc j))) (asked j b) o (matching N j l e b y c)))
-      (λ q. subst⁻¹ (λ (j : ℕ). At T t a write s (asked j b) → N ≡ nth w j → Moved (Complete N t) (asked j b)) q
+      (λ q. subst⁻¹ (λ (j : ℕ). At T t a write s (asked j b) → N ≡ nth w j → Moved s t a write (Complete N t) (asked j b)) q
       (λ o e. record {
         to = completed k;
         now = subst⁻¹ (λ (M : Chan). At T t a write (after s (Complete M t)) (completed k)) e (complete-last s g t a write has b (at-nth R N k e y) o);
@@ -204,15 +190,9 @@ module _ (s : Net) (g : Good s) (t : Transaction) (a : Agent) (write : Bool) (ha
         begun = completed-begun j;
       }
 
-  pub own-complete : (N : Chan) (h : Stage) → At T t a write s h → Fits k h → Accepted s (Complete N t) → Moved (Complete N t) h
-  unfolding grounds named-grounds
-  own-complete N h o f ok =
-      let r = clear (grounds s (Complete N t)) ok in
-      complete-by N h o f (r .1 .1 .1 .0) (at-R s t a write N h o (r .1 .0))
-
   -- the drops
 
-  drop-last : (N : Chan) (j : ℕ) (b : Bool) → b ≡ false → N ≡ nth w j → At T t a write s (asked j b) → j ≤ k → is-master T N ≡ false → Moved (DropRequest N t) (asked j b)
+  drop-last : (N : Chan) (j : ℕ) (b : Bool) → b ≡ false → N ≡ nth w j → At T t a write s (asked j b) → j ≤ k → is-master T N ≡ false → Moved s t a write (DropRequest N t) (asked j b)
   drop-last N j true z e o l m = absurd (both true refl z)
   drop-last N zero false z e o l m = absurd (both (is-master T (nth w 0)) has (sym (ap (is-master T) e) ∙ m))
   drop-last N (suc j) false z e o l m = record {
@@ -223,18 +203,12 @@ module _ (s : Net) (g : Good s) (t : Transaction) (a : Agent) (write : Bool) (ha
     begun = refl;
   }
 
-  drop-by : (N : Chan) (h : Stage) → At T t a write s h → Fits k h → is-master T N ≡ false → is-committed s N t ≡ false → AtR s t a write N h → Moved (DropRequest N t) h
+  drop-by : (N : Chan) (h : Stage) → At T t a write s h → Fits k h → is-master T N ≡ false → is-committed s N t ≡ false → AtR s t a write N h → Moved s t a write (DropRequest N t) h
   drop-by N _ o f m c (last j b e y) = drop-last N j b (uncommitted N b c y) e o f m
   drop-by N _ o f m c (before j b i l e y) = committed N c y
   drop-by N _ o f m c (behind j i l e y) = committed N c y
 
-  pub own-drop-request : (N : Chan) (h : Stage) → At T t a write s h → Fits k h → Accepted s (DropRequest N t) → Moved (DropRequest N t) h
-  unfolding grounds named-grounds
-  own-drop-request N h o f ok =
-      let r = clear (grounds s (DropRequest N t)) ok in
-      drop-by N h o f (r .1 .1 .0) (r .1 .1 .1 .0) (at-R s t a write N h o (r .1 .0))
-
-  drop-C-by : (N : Chan) (h : Stage) → At T t a write s h → Fits k h → AtC s t a write N h → Moved (DropCompletion N t) h
+  drop-C-by : (N : Chan) (h : Stage) → At T t a write s h → Fits k h → AtC s t a write N h → Moved s t a write (DropCompletion N t) h
   drop-C-by N _ o f (back j e) = record {
     to = asked j true;
     now = subst⁻¹ (λ (M : Chan). At T t a write (after s (DropCompletion M t)) (asked j true)) e (drop-completion-at s g t a write has j f o);
@@ -243,6 +217,45 @@ module _ (s : Net) (g : Good s) (t : Transaction) (a : Agent) (write : Bool) (ha
     begun = refl;
   }
 
-  pub own-drop-completion : (N : Chan) (h : Stage) → At T t a write s h → Fits k h → Accepted s (DropCompletion N t) → Moved (DropCompletion N t) h
+-- ---- with what the grounds have found
+
+module _ (s : Net) (g : Good s) (t : Transaction) (a : Agent) (write : Bool) (h : Stage) (o : At (s .table) t a write s h) (f : Fits (bridges-between (s .table) (t .master) a) h) (N : Chan) where
+  -- ground 2
+  has-master : not (has-chan (s .table) N && has-agent (s .table) (t .master)) ≡ false → has-agent (s .table) (t .master) ≡ true
+  has-master n = and-true (has-chan (s .table) N) (has-agent (s .table) (t .master)) (not-false (has-chan (s .table) N && has-agent (s .table) (t .master)) n) .1
+
+  pub own-commit : Accepted s (Commit N t) → Moved s t a write (Commit N t) h
   unfolding grounds named-grounds
-  own-drop-completion N h o f ok = drop-C-by N h o f (at-C s t a write N h o (clear (grounds s (DropCompletion N t)) ok .1 .0))
+  own-commit ok =
+      let r = clear (grounds s (Commit N t)) ok in
+      commit-by s g t a write (has-master (r .0)) N h o f (r .1 .1 .0) (at-R s t a write N h o (r .1 .0))
+
+  pub own-post : Accepted s (Post N t) → Moved s t a write (Post N t) h
+  unfolding grounds named-grounds
+  own-post ok =
+      let r = clear (grounds s (Post N t)) ok in
+      post-by s g t a write (has-master (r .0)) N h o f (at-P s t a write N h o (r .1 .0))
+
+  pub own-latch : Accepted s (Latch N t) → Moved s t a write (Latch N t) h
+  unfolding grounds named-grounds
+  own-latch ok =
+      let r = clear (grounds s (Latch N t)) ok in
+      latch-by s g t a write (has-master (r .0)) N h o f (r .1 .1 .0) (r .1 .1 .1 .1 .0) (at-R s t a write N h o (r .1 .0))
+
+  pub own-complete : Accepted s (Complete N t) → Moved s t a write (Complete N t) h
+  unfolding grounds named-grounds
+  own-complete ok =
+      let r = clear (grounds s (Complete N t)) ok in
+      complete-by s g t a write (has-master (r .0)) N h o f (r .1 .1 .1 .0) (at-R s t a write N h o (r .1 .0))
+
+  pub own-drop-request : Accepted s (DropRequest N t) → Moved s t a write (DropRequest N t) h
+  unfolding grounds named-grounds
+  own-drop-request ok =
+      let r = clear (grounds s (DropRequest N t)) ok in
+      drop-by s g t a write (has-master (r .0)) N h o f (r .1 .1 .0) (r .1 .1 .1 .0) (at-R s t a write N h o (r .1 .0))
+
+  pub own-drop-completion : Accepted s (DropCompletion N t) → Moved s t a write (DropCompletion N t) h
+  unfolding grounds named-grounds
+  own-drop-completion ok =
+      let r = clear (grounds s (DropCompletion N t)) ok in
+      drop-C-by s g t a write (has-master (r .0)) N h o f (at-C s t a write N h o (r .1 .0))

@@ -122,6 +122,9 @@ module _ (s : Net) (t : Transaction) (a : Agent) (write : Bool) where
     pub at-P : (h : Stage) → At T t a write s h → no-such-entry s P N t ≡ false → AtP h
     at-P h o n = as-P (part P h o n)
 
+    pub P-is : {i : ℕ} → AtP (posted i) → entry-at s P N t ≡ x P false
+    P-is (only i e y) = y
+
   -- ---- what stands where
 
   pub posted-stands : (i : ℕ) → At T t a write s (posted i) → stands P t (waiting s (nth w i)) ≡ true

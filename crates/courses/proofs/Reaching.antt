@@ -3,7 +3,7 @@
 use Prim.Native.Nat.{ℕ, _+_}
 use native.Mathlib.Omega.{arith}
 use mathlib.Core.Path.{_≡_, refl, sym, ap, subst, subst⁻¹, _∙_}
-use mathlib.Core.Bool.{Bool, true, false, not, _&&_}
+use mathlib.Core.Bool.{Bool, true, false, _&&_}
 use mathlib.Core.Option.{none}
 use mathlib.Core.List.{List, [], _∷_}
 use borrow.Author.Tests.{le-leb, lt-leb, leb-true, not-false, ltb-true}
@@ -16,7 +16,7 @@ use Rattle.chassis.specs.declared.Agent.{Agent}
 use Rattle.chassis.specs.declared.Chan.{Chan}
 use Rattle.chassis.specs.declared.Table.{Table}
 use Rattle.chassis.specs.Numbers.{agent}
-use Rattle.chassis.specs.Channels.{has-agent, has-chan, master-channel}
+use Rattle.chassis.specs.Channels.{has-agent, master-channel}
 use Rattle.chassis.specs.Routes.{bridges-between}
 use Rattle.chassis.specs.Tables.{within}
 use Rattle.chassis.proofs.Counts.{counts}
@@ -116,18 +116,14 @@ module _ (s : Net) (g : Good s) where
     on : OnCourse (after s e) t to
     by : Advances (s .table) t c e to
 
-  moved-on : (t : Transaction) (c : Course) (has : has-agent (s .table) (t .master) ≡ true) → OnCourse s t c → (e : Event) → Accepted s e
-      → ((m a : Agent) → BeginOf m a e → ⊥) → Moved s g t (c .target) (c .write) has e (c .stage) → Next t c e
-  moved-on t c has o e ok n r = record {
+  moved-on : (t : Transaction) (c : Course) → OnCourse s t c → (e : Event) → Accepted s e
+      → ((m a : Agent) → BeginOf m a e → ⊥) → Moved s t (c .target) (c .write) e (c .stage) → Next t c e
+  moved-on t c o e ok n r = record {
     to = course (c .target) (c .write) (r .to);
     on = on-course s t (course (c .target) (c .write) (r .to)) e (r .now) (r .fits)
         (quiet-stays s t e ok n ∙ o .number ∙ was-begun (r .by) ∙ sym (r .begun));
     by = moves (c .target) (c .write) (c .stage) (r .to) e (r .by);
   }
-
-  pub master-there : (N : Chan) (t : Transaction) → not (has-chan (s .table) N && has-agent (s .table) (t .master)) ≡ false → has-agent (s .table) (t .master) ≡ true
-  master-there N t h =
-      and-true (has-chan (s .table) N) (has-agent (s .table) (t .master)) (not-false (has-chan (s .table) N && has-agent (s .table) (t .master)) h) .1
 
   own-goes : (e : Event) (c : Course) → OnCourse s (transaction-of s e) c → Accepted s e → Next (transaction-of s e) c e
   unfolding grounds named-grounds effects pieces
@@ -146,24 +142,12 @@ module _ (s : Net) (g : Good s) where
     on = begins-course s g m a R true (asked 0 false) refl (omega arith) refl c o (BeginWrite m a) numbers.written ok ok refl;
     by = begins-write c a (is-unbegun s g m a c o);
   }
-  own-goes (Commit N t) c o ok =
-      let has = master-there N t (clear (grounds s (Commit N t)) ok .0) in
-      moved-on t c has o (Commit N t) ok (λ m a b. elim b [ ]) (own-commit s g t (c .target) (c .write) has N (c .stage) (o .stands) (o .fits) ok)
-  own-goes (Post N t) c o ok =
-      let has = master-there N t (clear (grounds s (Post N t)) ok .0) in
-      moved-on t c has o (Post N t) ok (λ m a b. elim b [ ]) (own-post s g t (c .target) (c .write) has N (c .stage) (o .stands) (o .fits) ok)
-  own-goes (Latch N t) c o ok =
-      let has = master-there N t (clear (grounds s (Latch N t)) ok .0) in
-      moved-on t c has o (Latch N t) ok (λ m a b. elim b [ ]) (own-latch s g t (c .target) (c .write) has N (c .stage) (o .stands) (o .fits) ok)
-  own-goes (Complete N t) c o ok =
-      let has = master-there N t (clear (grounds s (Complete N t)) ok .0) in
-      moved-on t c has o (Complete N t) ok (λ m a b. elim b [ ]) (own-complete s g t (c .target) (c .write) has N (c .stage) (o .stands) (o .fits) ok)
-  own-goes (DropRequest N t) c o ok =
-      let has = master-there N t (clear (grounds s (DropRequest N t)) ok .0) in
-      moved-on t c has o (DropRequest N t) ok (λ m a b. elim b [ ]) (own-drop-request s g t (c .target) (c .write) has N (c .stage) (o .stands) (o .fits) ok)
-  own-goes (DropCompletion N t) c o ok =
-      let has = master-there N t (clear (grounds s (DropCompletion N t)) ok .0) in
-      moved-on t c has o (DropCompletion N t) ok (λ m a b. elim b [ ]) (own-drop-completion s g t (c .target) (c .write) has N (c .stage) (o .stands) (o .fits) ok)
+  own-goes (Commit N t) c o ok = moved-on t c o (Commit N t) ok (λ m a b. elim b [ ]) (own-commit s g t (c .target) (c .write) (c .stage) (o .stands) (o .fits) N ok)
+  own-goes (Post N t) c o ok = moved-on t c o (Post N t) ok (λ m a b. elim b [ ]) (own-post s g t (c .target) (c .write) (c .stage) (o .stands) (o .fits) N ok)
+  own-goes (Latch N t) c o ok = moved-on t c o (Latch N t) ok (λ m a b. elim b [ ]) (own-latch s g t (c .target) (c .write) (c .stage) (o .stands) (o .fits) N ok)
+  own-goes (Complete N t) c o ok = moved-on t c o (Complete N t) ok (λ m a b. elim b [ ]) (own-complete s g t (c .target) (c .write) (c .stage) (o .stands) (o .fits) N ok)
+  own-goes (DropRequest N t) c o ok = moved-on t c o (DropRequest N t) ok (λ m a b. elim b [ ]) (own-drop-request s g t (c .target) (c .write) (c .stage) (o .stands) (o .fits) N ok)
+  own-goes (DropCompletion N t) c o ok = moved-on t c o (DropCompletion N t) ok (λ m a b. elim b [ ]) (own-drop-completion s g t (c .target) (c .write) (c .stage) (o .stands) (o .fits) N ok)
 
   -- ---- every transaction
 
