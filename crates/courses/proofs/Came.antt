@@ -28,7 +28,7 @@ use Rattle.courses.specs.Courses.{Course, course, OnCourse, transaction-
 use Rattle.courses.proofs.Placed.{AtP, at-P, P-is, posted-stands}
 use Rattle.courses.proofs.Placed as placed
 use Rattle.courses.proofs.Reaching.{every-transaction-is-on-course, each-follows}
-use Rattle.courses.proofs.Once.{one-target}
+use Rattle.courses.proofs.Once.{its-target}
 use Rattle.courses.proofs.OneStage.{one-stage}
 
 -- ---- a course at a posted stage
@@ -120,7 +120,7 @@ posted-at s r x N i k =
     let t = x .transaction in
     let c = every-transaction-is-on-course s r t in
     let mine : is-named P t x ≡ true = is-named-so t x P k refl in
-    let e = one-target s g t (c .0) (c .1) N x i (one-is-same {t = t} refl) in
+    let e = its-target s g t (c .0) (c .1) N x i (one-is-same {t = t} refl) in
     let p = stage-of (at-P s t (c .0 .target) (c .0 .write) N (c .0 .stage) (c .1 .stands) (ap not (in-found (is-named P t) (waiting s N) i mine))) in
     (c .0 .write, p .0, subst (OnCourse s t) (path (sym (e .0)) (p .1)) (c .1))
   where

@@ -29,7 +29,7 @@ use Rattle.events.specs.Tests.{entry-at, ahead, no-such-entry}
 use Rattle.events.specs.Grounds.{named-grounds, grounds, Accepted}
 use Rattle.courses.specs.Stages.{Stage, asked, answered, has-begun, Fits, Moves, commits, latches, reaches, returns, drops-request}
 use Rattle.courses.specs.Courses.{Course, entry-of, OnCourse, NamesR, commit, latch, complete, drop}
-use Rattle.courses.proofs.Placed.{AtR, last, before, behind, AtC, back, AtP, at-R, at-C, at-P}
+use Rattle.courses.proofs.Placed.{R-is, AtR, last, before, behind, AtC, back, AtP, at-R, at-C, at-P}
 use Rattle.courses.proofs.Placed as placed
 use Rattle.courses.proofs.Advanced.{ahead-on, ahead-last}
 use Rattle.courses.proofs.Own.{own-commit, own-latch, own-complete, own-drop-request}
@@ -50,7 +50,7 @@ ends-there N _ drop (drops-request _ j p) = (suc j, p, asks false)
 through-same : {X Y : Chan} → Through X ≡ Through Y → X ≡ Y
 through-same e = cc
 
-pub target-through : {X : Chan} → Target ≡ Through X → ⊥
+target-through : {X : Chan} → Target ≡ Through X → ⊥
 target-through e = let z : _≡_ {A = ℕ} 0 1 = cc in omega arith
 
 -- ---- on a course
@@ -106,11 +106,11 @@ module _ (s : Net) (g : Good s) (t : Transaction) (c : Course) (o : OnCourse s t
   C-no-latch : (N M : Chan) {i j : Stage} → AtC s t a (c .write) N i → Moves T w k t i (Latch M t) j → ⊥
   C-no-latch N M (back j e) m = elim m [ ]
 
-  pub not-both : (N M : Chan) → stands P t (waiting s N) ≡ true → stands R t (waiting s M) ≡ true → ⊥
-  not-both N M y z = P-and-R N M (p-here N y) (r-here M z)
+  pub no-P-beside-an-R : (N M : Chan) → stands P t (waiting s N) ≡ true → stands R t (waiting s M) ≡ true → ⊥
+  no-P-beside-an-R N M y z = P-and-R N M (p-here N y) (r-here M z)
 
-  pub not-answered : (N M : Chan) → stands P t (waiting s N) ≡ true → stands C t (waiting s M) ≡ true → ⊥
-  not-answered N M y z = P-and-C N M (p-here N y) (c-here M z)
+  pub no-P-beside-a-C : (N M : Chan) → stands P t (waiting s N) ≡ true → stands C t (waiting s M) ≡ true → ⊥
+  no-P-beside-a-C N M y z = P-and-C N M (p-here N y) (c-here M z)
 
   pub one-P : (N M : Chan) → stands P t (waiting s N) ≡ true → stands P t (waiting s M) ≡ true → N ≡ M
   one-P N M y z = P-once N M (p-here N y) (p-here M z)
@@ -118,8 +118,8 @@ module _ (s : Net) (g : Good s) (t : Transaction) (c : Course) (o : OnCourse s t
   pub one-C : (N M : Chan) → stands C t (waiting s N) ≡ true → stands C t (waiting s M) ≡ true → N ≡ M
   one-C N M y z = C-once N M (c-here N y) (c-here M z)
 
-  pub all-marked : (N M : Chan) → stands C t (waiting s N) ≡ true → stands R t (waiting s M) ≡ true → (entry-at s R M t) .committed ≡ true
-  all-marked N M y z = C-marks N M (c-here N y) (r-here M z)
+  pub answered-is-marked : (N M : Chan) → stands C t (waiting s N) ≡ true → stands R t (waiting s M) ≡ true → (entry-at s R M t) .committed ≡ true
+  answered-is-marked N M y z = C-marks N M (c-here N y) (r-here M z)
 
   -- ---- the last R of the chain
 
@@ -149,11 +149,6 @@ module _ (s : Net) (g : Good s) (t : Transaction) (c : Course) (o : OnCourse s t
   R-reach j N (asks b) (before _ _ n l e y) = (n, omega arith, e)
   R-reach j N answers (behind _ n l e y) = (n, l, e)
 
-  R-entry : (N : Chan) {i : Stage} → AtR s t a (c .write) N i → (b : Bool) × (entry-at s R N t ≡ x R b)
-  R-entry N (last j b e y) = (b, y)
-  R-entry N (before j b n l e y) = (true, y)
-  R-entry N (behind j n l e y) = (true, y)
-
   ends-fit : (j : ℕ) {i : Stage} → Ends j i → Fits k i → j ≤ k
   ends-fit j (asks b) f = f
   ends-fit j answers f = omega arith
@@ -162,7 +157,7 @@ module _ (s : Net) (g : Good s) (t : Transaction) (c : Course) (o : OnCourse s t
   beyond : (N X : Chan) (j : ℕ) → N ≡ nth w j → Ends j h → AtR s t a (c .write) N h → ahead s R N t ≡ Through X → stands R t (waiting s X) ≡ true → ⊥
   beyond N X j e d r p y =
       let has = has-master r in
-      let q = R-entry N r in
+      let q = R-is s t a (c .write) N r in
       let q′ : entry-at s R (nth w j) t ≡ x R (q .0) = subst (λ (M : Chan). entry-at s R M t ≡ x R (q .0)) e (q .1) in
       let p′ : ahead s R (nth w j) t ≡ Through X = subst (λ (M : Chan). ahead s R M t ≡ Through X) e p in
       ⊎-elim
@@ -177,24 +172,24 @@ module _ (s : Net) (g : Good s) (t : Transaction) (c : Course) (o : OnCourse s t
       target-through (sym (ahead-last s g t a (c .write) has R (q .0) (subst (λ (j : ℕ). entry-at s R (nth w j) t ≡ x R (q .0)) q″ q′)) ∙ p″))
       (less-or-same j k (ends-fit j d (o .fits)))
 
-  pub only-the-last : (N X : Chan) (e : Event) → NamesR N t e → Accepted s e → ahead s R N t ≡ Through X → stands R t (waiting s X) ≡ false
-  only-the-last N X e f ok p =
+  pub only-the-last-R-moves : (N X : Chan) (e : Event) → NamesR N t e → Accepted s e → ahead s R N t ≡ Through X → stands R t (waiting s X) ≡ false
+  only-the-last-R-moves N X e f ok p =
       split (stands R t (waiting s X))
       (λ y.
       let d = ends-there N e f (moves-R N e f ok .1) in
       absurd (beyond N X (d .0) (d .1) (d .2) (names-R N e f ok) p y))
       (λ z. z)
 
-  pub no-latch : (N M : Chan) → stands C t (waiting s N) ≡ true → Accepted s (Latch M t) → ⊥
-  no-latch N M y ok = C-no-latch N M (c-here N y) (moves-R M (Latch M t) latch ok .1)
+  pub no-latch-while-answered : (N M : Chan) → stands C t (waiting s N) ≡ true → Accepted s (Latch M t) → ⊥
+  no-latch-while-answered N M y ok = C-no-latch N M (c-here N y) (moves-R M (Latch M t) latch ok .1)
 
-  -- ---- no R beside its C
+  -- ---- no R opposite its C
 
-  behind-its-R : (has : has-agent T (t .master) ≡ true) (N : Chan) {i : Stage} → Fits k i → is-master T N ≡ false → AtR s t a (c .write) N i → AtC s t a (c .write) (opposite T N) i → ⊥
-  behind-its-R has N f m (behind j zero l e y) (back _ p) = both (is-master T (nth w 0)) has (sym (ap (is-master T) e) ∙ m)
-  behind-its-R has N f m (behind j (suc n) l e y) (back _ p) =
+  opposite-its-C : (has : has-agent T (t .master) ≡ true) (N : Chan) {i : Stage} → Fits k i → is-master T N ≡ false → AtR s t a (c .write) N i → AtC s t a (c .write) (opposite T N) i → ⊥
+  opposite-its-C has N f m (behind j zero l e y) (back _ p) = both (is-master T (nth w 0)) has (sym (ap (is-master T) e) ∙ m)
+  opposite-its-C has N f m (behind j (suc n) l e y) (back _ p) =
       let q = opposite-once T (g .rules .passes) (t .master) a has n j (omega arith) f (ap (opposite T) (sym e) ∙ p) in
       omega arith
 
-  pub not-behind-its-R : (N : Chan) → is-master T N ≡ false → stands R t (waiting s N) ≡ true → stands C t (waiting s (opposite T N)) ≡ true → ⊥
-  not-behind-its-R N m y z = behind-its-R (has-master (r-here N y)) N (o .fits) m (r-here N y) (c-here (opposite T N) z)
+  pub no-R-opposite-its-C : (N : Chan) → is-master T N ≡ false → stands R t (waiting s N) ≡ true → stands C t (waiting s (opposite T N)) ≡ true → ⊥
+  no-R-opposite-its-C N m y z = opposite-its-C (has-master (r-here N y)) N (o .fits) m (r-here N y) (c-here (opposite T N) z)

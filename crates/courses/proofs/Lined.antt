@@ -66,12 +66,12 @@ module _ (s : Net) (g : Good s) (u : Transaction) (a : Agent) (b : Bool) (j : �
       let z = nth-once (s .table) (g .rules .passes) (u .master) a has-master (suc j) j l (omega arith) (chan-path e) in
       omega arith
 
-  pub not-there-yet : only (is-of u) (waiting s (nth w (suc j))) ≡ []
+  not-there-yet : only (is-of u) (waiting s (nth w (suc j))) ≡ []
   unfolding pieces
   not-there-yet = o .stands (nth w (suc j)) ∙ held-no (nth w (suc j)) (nth w j) (entry-of u a b P false) another
 
   -- posted on, it stands there behind all others
-  pub posted-behind : Accepted s (Post (nth w j) u) → waiting (after s (Post (nth w j) u)) (nth w (suc j)) ≡ waiting s (nth w (suc j)) ++ (entry-of u a b P false ∷ [])
+  posted-behind : Accepted s (Post (nth w j) u) → waiting (after s (Post (nth w j) u)) (nth w (suc j)) ≡ waiting s (nth w (suc j)) ++ (entry-of u a b P false ∷ [])
   unfolding grounds named-grounds after edits edit
   posted-behind ok =
       let X = nth w (suc j) in

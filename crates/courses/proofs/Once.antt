@@ -15,18 +15,17 @@ use Rattle.chassis.specs.declared.Chan.{Chan}
 use Rattle.chassis.specs.declared.Table.{Table}
 use Rattle.chassis.specs.Channels.{has-agent, opposite}
 use Rattle.chassis.specs.Routes.{bridges-between, way-channels, nth}
-use Rattle.chassis.specs.Tables.{within}
 use Rattle.chassis.proofs.Hops.{chan-path}
 use Rattle.chassis.proofs.Along.{nth-once, never-turned}
 use Rattle.queue.specs.declared.Transaction.{Transaction}
 use Rattle.queue.specs.declared.Entry.{Entry}
 use Rattle.queue.specs.Entries.{P, R, C, is-of}
 use Rattle.queue.specs.Queues.{stands}
-use Rattle.network.specs.Nets.{Net, waiting, begun}
+use Rattle.network.specs.Nets.{Net, waiting}
 use Rattle.network.proofs.Good.{Good}
 use Rattle.courses.specs.Pieces.{Piece, piece, held-in}
 use Rattle.courses.specs.Stages.{Stage, unbegun, posted, asked, answered, ended, has-begun, Fits}
-use Rattle.courses.specs.Courses.{requests, pieces, Course, entry-of, OnCourse}
+use Rattle.courses.specs.Courses.{requests, pieces, Course, entry-of, is-begun, OnCourse}
 use Rattle.courses.proofs.Held.{held-no, in-held, none-held, none-counted, one-counted, both-counted}
 use Rattle.courses.proofs.Standing.{in-requests, requests-suc}
 use Rattle.courses.proofs.Reaching.{not-begun, begun-there}
@@ -98,8 +97,8 @@ module _ (s : Net) (g : Good s) (t : Transaction) (c : Course) (o : OnCourse s t
       (equal? (N .0) (Z .0))
   once-by p N ended b f = omega (arith, none-counted N p [] (λ q i. in-none i))
 
-  pub stands-once : (N : Chan) → count (is-of t) (waiting s N) ≤ 1
-  stands-once N =
+  pub a-name-stands-once : (N : Chan) → count (is-of t) (waiting s N) ≤ 1
+  a-name-stands-once N =
       let e = count-only (is-of t) (is-of t) (λ x h. h) (waiting s N) in
       let f = ap (count (is-of t)) (o .stands N) in
       omega (arith, once-by (is-of t) N h (begun-there s g t c o) (o .fits))
@@ -122,15 +121,15 @@ module _ (s : Net) (g : Good s) (t : Transaction) (c : Course) (o : OnCourse s t
       (in-append (requests w x (suc n)) (piece (opposite T (nth w (suc n))) (x C false) ∷ []) i)
   like ended q i = in-none i
 
-  pub one-target : (N : Chan) (y : Entry) → In y (waiting s N) → is-of t y ≡ true → (y .target ≡ a) × (y .write ≡ c .write)
-  one-target N y i h′ =
+  pub its-target : (N : Chan) (y : Entry) → In y (waiting s N) → is-of t y ≡ true → (y .target ≡ a) × (y .write ≡ c .write)
+  its-target N y i h′ =
       let r = in-held N (pieces T w x h) (subst (In y) (o .stands N) (in-only (is-of t) (waiting s N) i h′)) in
       let l = like h (r .0) (r .1) in
       (ap (λ (y : Entry). y .target) (sym (r .2)) ∙ l .0, ap (λ (y : Entry). y .write) (sym (r .2)) ∙ l .1)
 
   -- ---- not begun
 
-  pub nothing-yet : within 1 (begun s (t .master)) (t .number) ≡ false → (N : Chan) → only (is-of t) (waiting s N) ≡ []
+  pub nothing-yet : is-begun s t ≡ false → (N : Chan) → only (is-of t) (waiting s N) ≡ []
   unfolding pieces held-in
   nothing-yet n N =
       o .stands N ∙ ap (λ (i : Stage). held-in N (pieces T w x i)) (not-begun h (sym (o .number) ∙ n))

@@ -21,7 +21,7 @@ use Rattle.events.specs.Tests.{entry-at}
 use Rattle.courses.specs.Stages.{Stage, unbegun, posted, asked, answered, ended, has-begun, Fits}
 use Rattle.courses.specs.Courses.{Course, entry-of, OnCourse}
 use Rattle.courses.proofs.Edited.{At}
-use Rattle.courses.proofs.Placed.{AtR, last, before, behind, AtC, back, AtP, only, at-R, at-C, at-P, posted-stands, asked-stands, answered-stands, answer-stands}
+use Rattle.courses.proofs.Placed.{R-is, AtR, last, before, behind, AtC, back, AtP, only, at-R, at-C, at-P, posted-stands, asked-stands, answered-stands, answer-stands}
 use Rattle.courses.proofs.Reaching.{not-begun, begun-there}
 
 module _ (s : Net) (g : Good s) (t : Transaction) (has : has-agent (s .table) (t .master) ≡ true) where
@@ -69,26 +69,18 @@ module _ (s : Net) (g : Good s) (t : Transaction) (has : has-agent (s .table) (t
         let u = same-place j n q f (omega arith) (sym e ∙ e′) in
         absurd (omega arith)
     by-R N j c o o′ f f′ e y (behind j′ n l e′ y′) =
-        none-asked (at-C s t a b (opposite T (nth (way-channels T m a′) (suc j′))) (asked j c) o (ap not (answer-stands s t a′ b′ j′ o′)))
-      where
-        none-asked : {Z : Chan} {A : Type 0} → AtC s t a b Z (asked j c) → A
-        none-asked r = elim r [ ]
+        elim (at-C s t a b (opposite T (nth (way-channels T m a′) (suc j′))) (asked j c) o (ap not (answer-stands s t a′ b′ j′ o′))) [ ]
 
     by-C : (N : Chan) {h h′ : Stage} → a′ ≡ a → Fits (bridges-between T m a) h → Fits (bridges-between T m a′) h′ → AtC s t a b N h → AtC s t a′ b′ N h′ → h ≡ h′
     by-C N q f f′ (back j e) (back j′ e′) = ap answered (same-opposite j j′ q f f′ (sym e ∙ e′))
-
-    entry-R : (N : Chan) {h : Stage} → AtR s t a b N h → (c : Bool) × (entry-at s R N t ≡ entry-of t a b R c)
-    entry-R N (last j c e y) = (c, y)
-    entry-R N (before j c n l e y) = (true, y)
-    entry-R N (behind j n l e y) = (true, y)
 
   -- where an R of the first stands in its first channel, one of the second's stands there too
   AtR-first : (a a′ : Agent) (b b′ : Bool) (j : ℕ) (h′ : Stage) → At T t a b s (answered j) → At T t a′ b′ s h′ → j < bridges-between T m a → a′ ≡ a
   AtR-first a a′ b b′ j h′ o o′ f =
       let N = nth (way-channels T m a) 0 in
       let y = ap not (answered-stands s t a b j 0 o (omega arith) f) in
-      let r = entry-R a a′ b b′ N (at-R s t a b N (answered j) o y) in
-      let r′ = entry-R a′ a b′ b N (at-R s t a′ b′ N h′ o′ y) in
+      let r = R-is s t a b N (at-R s t a b N (answered j) o y) in
+      let r′ = R-is s t a′ b′ N (at-R s t a′ b′ N h′ o′ y) in
       one-agent a a′ b b′ R N (r .0) (r′ .0) (r .1) (r′ .1)
 
   module _ (a a′ : Agent) (b b′ : Bool) where
@@ -96,20 +88,11 @@ module _ (s : Net) (g : Good s) (t : Transaction) (has : has-agent (s .table) (t
     over : (h′ : Stage) → At T t a b s ended → At T t a′ b′ s h′ → Fits (bridges-between T m a′) h′ → has-begun h′ ≡ true → h′ ≡ ended
     over unbegun o o′ f′ y = absurd (both true refl (sym y))
     over (posted i) o o′ f′ y =
-        none-ended (at-P s t a b (nth (way-channels T m a′) i) ended o (ap not (posted-stands s t a′ b′ i o′)))
-      where
-        none-ended : {Z : Chan} {A : Type 0} → AtP s t a b Z ended → A
-        none-ended r = elim r [ ]
+        elim (at-P s t a b (nth (way-channels T m a′) i) ended o (ap not (posted-stands s t a′ b′ i o′))) [ ]
     over (asked j c) o o′ f′ y =
-        none-ended (at-R s t a b (nth (way-channels T m a′) j) ended o (ap not (asked-stands s t a′ b′ j j c o′ (omega arith) f′)))
-      where
-        none-ended : {Z : Chan} {A : Type 0} → AtR s t a b Z ended → A
-        none-ended r = elim r [ ]
+        elim (at-R s t a b (nth (way-channels T m a′) j) ended o (ap not (asked-stands s t a′ b′ j j c o′ (omega arith) f′))) [ ]
     over (answered j) o o′ f′ y =
-        none-ended (at-C s t a b (opposite T (nth (way-channels T m a′) (suc j))) ended o (ap not (answer-stands s t a′ b′ j o′)))
-      where
-        none-ended : {Z : Chan} {A : Type 0} → AtC s t a b Z ended → A
-        none-ended r = elim r [ ]
+        elim (at-C s t a b (opposite T (nth (way-channels T m a′) (suc j))) ended o (ap not (answer-stands s t a′ b′ j o′))) [ ]
     over ended o o′ f′ y = refl
 
     stage-by : (h h′ : Stage) → At T t a b s h → At T t a′ b′ s h′ → Fits (bridges-between T m a) h → Fits (bridges-between T m a′) h′

@@ -27,7 +27,7 @@ use Rattle.events.specs.Effects.{next-number, after}
 use Rattle.events.proofs.SoundStays.{table-stays}
 use Rattle.events.proofs.BeginNumbers.{BeginOf, posted, read, written, its-number}
 use Rattle.courses.specs.Stages.{Fits, has-begun}
-use Rattle.courses.specs.Courses.{Course, standing, OnCourse, transaction-of}
+use Rattle.courses.specs.Courses.{Course, standing, is-begun, OnCourse, transaction-of}
 use Rattle.courses.proofs.Edited.{Shows}
 use Rattle.courses.proofs.EachEdit.{untouched, counts-stay, begin?}
 
@@ -44,9 +44,9 @@ its-new s m a _ read = refl
 its-new s m a _ written = refl
 
 module _ (s : Net) (t : Transaction) where
-  -- t's number is begun after e exactly if it was before
+  -- t is begun after e exactly if it was before
   abbrev pub Stays : Event → Type 0
-  Stays e = within 1 (begun (after s e) (t .master)) (t .number) ≡ within 1 (begun s (t .master)) (t .number)
+  Stays e = is-begun (after s e) t ≡ is-begun s t
 
   pub quiet-stays : (e : Event) → Accepted s e → ((m a : Agent) → BeginOf m a e → ⊥) → Stays e
   quiet-stays e ok n = ap (λ (b : List ℕ). within 1 (getD b (t .master .0) 0) (t .number)) (counts-stay s e ok n)
@@ -72,7 +72,7 @@ module _ (s : Net) (t : Transaction) where
   -- in the state after e, from what is said with the table before
   pub on-course : (c : Course) (e : Event) → Shows (after s e) t (standing (s .table) t c)
       → Fits (bridges-between (s .table) (t .master) (c .target)) (c .stage)
-      → within 1 (begun (after s e) (t .master)) (t .number) ≡ has-begun (c .stage)
+      → is-begun (after s e) t ≡ has-begun (c .stage)
       → OnCourse (after s e) t c
   on-course c e w f n = record {
     stands = subst⁻¹ (λ (T : Table). Shows (after s e) t (standing T t c)) (table-stays s e) w;

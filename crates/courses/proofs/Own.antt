@@ -156,16 +156,13 @@ module _ (s : Net) (g : Good s) (t : Transaction) (a : Agent) (write : Bool) (ha
       let p : ahead s R N t ≡ Through (nth w (suc i)) = ap (λ (M : Chan). ahead s R M t) e ∙ ahead-on s g t a write has i l R b (at-nth R N i e y) in
       sym (ap (unanswered s t) p) ∙ h
 
-  none-asked : {A : Type 0} (j : ℕ) (b : Bool) (Z : Chan) → AtC s t a write Z (asked j b) → A
-  none-asked j b Z c = elim c [ ]
-
   the-one : (j : ℕ) (Z : Chan) → AtC s t a write Z (answered j) → Z ≡ opposite T (nth w (suc j))
   the-one j Z (back _ e) = e
 
   complete-by : (N : Chan) (h : Stage) → At T t a write s h → Fits k h → unanswered s t (ahead s R N t) ≡ false → AtR s t a write N h → Moved s t a write (Complete N t) h
   complete-by N _ o f c (last j b e y) =
       ⊎-elim
-      (λ l. none-asked j b (opposite T (nth w (suc j))) (at-C s t a write (opposite T (nth w (suc j))) (asked j b) o (matching N j l e b y c)))
+      (λ l. elim (at-C s t a write (opposite T (nth w (suc j))) (asked j b) o (matching N j l e b y c)) [ ])
       (λ q. subst⁻¹ (λ (j : ℕ). At T t a write s (asked j b) → N ≡ nth w j → Moved s t a write (Complete N t) (asked j b)) q
       (λ o e. record {
         to = completed k;
@@ -177,7 +174,7 @@ module _ (s : Net) (g : Good s) (t : Transaction) (a : Agent) (write : Bool) (ha
       o e)
       (less-or-same j k f)
   complete-by N _ o f c (before j b i l e y) =
-      none-asked j b (opposite T (nth w (suc i))) (at-C s t a write (opposite T (nth w (suc i))) (asked j b) o (matching N i (omega arith) e true y c))
+      elim (at-C s t a write (opposite T (nth w (suc i))) (asked j b) o (matching N i (omega arith) e true y c)) [ ]
   complete-by N _ o f c (behind j i l e y) =
       let i<k : i < k = omega arith in
       let q : i ≡ j = opposite-once T (g .rules .passes) (t .master) a has i j i<k f (the-one j (opposite T (nth w (suc i))) (at-C s t a write (opposite T (nth w (suc i))) (answered j) o (matching N i i<k e true y c))) in

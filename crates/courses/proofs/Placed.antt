@@ -122,6 +122,11 @@ module _ (s : Net) (t : Transaction) (a : Agent) (write : Bool) where
     pub at-P : (h : Stage) → At T t a write s h → no-such-entry s P N t ≡ false → AtP h
     at-P h o n = as-P (part P h o n)
 
+    pub R-is : {h : Stage} → AtR h → (b : Bool) × (entry-at s R N t ≡ x R b)
+    R-is (last j b e y) = (b, y)
+    R-is (before j b i l e y) = (true, y)
+    R-is (behind j i l e y) = (true, y)
+
     pub P-is : {i : ℕ} → AtP (posted i) → entry-at s P N t ≡ x P false
     P-is (only i e y) = y
 

@@ -51,13 +51,16 @@ entry-of t a write k mark = record { transaction = t; kind = k; target = a; writ
 abbrev pub standing : Table → Transaction → Course → List Piece
 standing T t c = pieces T (way-channels T (t .master) (c .target)) (entry-of t (c .target) (c .write)) (c .stage)
 
+-- its number is one of those from 1 to its master's count
+abbrev pub is-begun : Net → Transaction → Bool
+is-begun s t = within 1 (begun s (t .master)) (t .number)
+
 -- t is at c in s
 pub record OnCourse (s : Net) (t : Transaction) (c : Course) : Type 0 where
   -- of its name there stands just that, channel by channel
   pub stands : (N : Chan) → only (is-of t) (waiting s N) ≡ held-in N (standing (s .table) t c)
   pub fits : Fits (bridges-between (s .table) (t .master) (c .target)) (c .stage)
-  -- begun are the numbers from 1 to the master's count
-  pub number : within 1 (begun s (t .master)) (t .number) ≡ has-begun (c .stage)
+  pub number : is-begun s t ≡ has-begun (c .stage)
 
 -- ---- an event's transaction, and how it moves it
 
