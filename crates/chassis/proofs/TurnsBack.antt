@@ -1,27 +1,28 @@
 -- A bridge crossed is the first of the way to any goal, or the way from there first crosses back; so a channel that is still ahead stays so until it is entered.
 -- Either way over the bridge is a way that does not turn back, and there is one way only.
-use Prim.Native.Nat.{ℕ, _<_}
+use Prim.Native.Nat.{ℕ, suc, _<_}
 use mathlib.Core.Path.{_≡_, refl, sym, ap, subst, subst⁻¹, _∙_}
 use mathlib.Core.Bool.{Bool, true, false, not}
 use mathlib.Core.Logic.{_⊎_, inl, inr, ⊎-elim}
 use mathlib.Core.List.{List, [], _∷_, map}
 use Rattle.base.proofs.Logic.{equal?}
 use Rattle.base.proofs.Sifted.{cons-nil}
-use Rattle.base.proofs.Cells.{In, first, later, in-none, in-cons}
+use Rattle.base.proofs.Cells.{In, first, later, in-none, in-cons, cell-in}
 use Rattle.chassis.specs.declared.Agent.{Agent}
 use Rattle.chassis.specs.declared.Bus.{Bus}
 use Rattle.chassis.specs.declared.Chan.{Chan}
 use Rattle.chassis.specs.declared.Table.{Table}
 use Rattle.chassis.specs.declared.NextPlace.the-variants.{Through}
-use Rattle.chassis.specs.Channels.{home, has-chan, is-master, out-bus, opposite}
+use Rattle.chassis.specs.Numbers.{chan}
+use Rattle.chassis.specs.Channels.{home, has-agent, has-chan, is-master, master-channel, out-bus, opposite}
 use Rattle.chassis.specs.Ways.{Hop, hop, from, to, Onward, Way}
-use Rattle.chassis.specs.Routes.{way, channel-of, next-place}
+use Rattle.chassis.specs.Routes.{way, channel-of, next-place, bridge-channels, bridges-between, way-channels, nth}
 use Rattle.chassis.specs.Tables.{table-passes}
 use Rattle.chassis.proofs.Trees.{the-way}
 use Rattle.chassis.proofs.Passing.{passed}
 use Rattle.chassis.proofs.Steps.{way-step, way-here, is-the-way, to-there, from-there, ends-of}
 use Rattle.chassis.proofs.Hops.{hop-out, hop-opposite, turned, crossing}
-use Rattle.chassis.proofs.OnTheWay.{home-there, next}
+use Rattle.chassis.proofs.OnTheWay.{home-there, next, master-out}
 
 same-or-not : (d e : Bool) → (e ≡ d) ⊎ (e ≡ not d)
 same-or-not true true = inl refl
@@ -97,6 +98,13 @@ StillAhead T a N B = In N (map (channel-of T) (way T B (home T a)))
 module _ (T : Table) (ok : table-passes T ≡ true) (a : Agent) where
   abbrev OfHops : Chan → List Hop → Type 0
   OfHops N hops = In N (map (channel-of T) hops)
+
+  -- at the start all bridge channels of the way are ahead, and at the end none
+  pub all-ahead : (m : Agent) → has-agent T m ≡ true → (i : ℕ) → i < bridges-between T m a → StillAhead T a (nth (way-channels T m a) (suc i)) (out-bus T (master-channel m))
+  all-ahead m has i l = subst⁻¹ (StillAhead T a (nth (way-channels T m a) (suc i))) (master-out T ok m has) (cell-in (bridge-channels T m a) (chan 0) i l)
+
+  pub none-ahead : (N : Chan) → StillAhead T a N (home T a) → ⊥
+  none-ahead N i = in-none (subst (OfHops N) (way-here T ok (home T a) (home-there T ok a)) i)
 
   -- over any bridge, in channel X: that is N itself, or N is still ahead
   pub entered-or-ahead : (N X : Chan) → has-chan T X ≡ true → is-master T X ≡ false → StillAhead T a N (out-bus T (opposite T X)) → (N ≡ X) ⊎ StillAhead T a N (out-bus T X)

@@ -3,7 +3,7 @@
 use Prim.Native.Nat.{ℕ, suc, _+_, _<_}
 use native.Mathlib.Omega.{arith}
 use mathlib.Core.Path.{_≡_, refl, sym, ap, subst, _∙_}
-use mathlib.Core.Bool.{Bool, true, false}
+use mathlib.Core.Bool.{true, false}
 use mathlib.Core.List.{List, [], _∷_, _++_}
 use borrow.Author.Tests.{ltb-true}
 use Rattle.base.specs.Lists.{only, modify, alter}
@@ -39,12 +39,13 @@ use Rattle.events.proofs.SoundStays.{reached-is-good}
 use Rattle.events.proofs.BeginNumbers as numbers
 use Rattle.events.proofs.BeginNumbers.{its-number}
 use Rattle.courses.specs.Stages.{posted}
-use Rattle.courses.specs.Courses.{pieces, course, entry-of, OnCourse, transaction-of}
+use Rattle.courses.specs.Courses.{pieces, course, transaction-of}
 use Rattle.courses.proofs.Held.{held-one, held-no}
 use Rattle.courses.proofs.Placed.{at-P, P-is}
 use Rattle.courses.proofs.Advanced.{ahead-on, post-effects}
 use Rattle.courses.proofs.Reaching.{every-transaction-is-on-course, next-is-not, begun-there}
 use Rattle.courses.proofs.Once.{nothing-yet}
+use Rattle.courses.proofs.Came.{PostedAt, the-P}
 
 -- ---- the two in one channel
 
@@ -53,12 +54,12 @@ line-up t u l x z h k y =
     only-append (is-either t u) l (z ∷ [])
     ∙ rw (only-first (is-of t) (is-of u) l k ∙ h, only-one (is-either t u) z (of-second t u z y))
 
-module _ (s : Net) (g : Good s) (u : Transaction) (a : Agent) (b : Bool) (j : ℕ) (o : OnCourse s u (course a b (posted j))) (l : j < bridges-between (s .table) (u .master) a) where
+module _ (s : Net) (g : Good s) (u : Transaction) (a : Agent) (j : ℕ) (o : PostedAt s u a j) (l : j < bridges-between (s .table) (u .master) a) where
   abbrev w : List Chan
   w = way-channels (s .table) (u .master) a
 
   has-master : has-agent (s .table) (u .master) ≡ true
-  has-master = begun-there s g u (course a b (posted j)) o refl
+  has-master = begun-there s g u (course a true (posted j)) o refl
 
   -- the next channel is another
   another : nth w (suc j) .0 ≡ nth w j .0 → ⊥
@@ -68,22 +69,22 @@ module _ (s : Net) (g : Good s) (u : Transaction) (a : Agent) (b : Bool) (j : �
 
   not-there-yet : only (is-of u) (waiting s (nth w (suc j))) ≡ []
   unfolding pieces
-  not-there-yet = o .stands (nth w (suc j)) ∙ held-no (nth w (suc j)) (nth w j) (entry-of u a b P false) another
+  not-there-yet = o .stands (nth w (suc j)) ∙ held-no (nth w (suc j)) (nth w j) (the-P u a) another
 
   -- posted on, it stands there behind all others
-  posted-behind : Accepted s (Post (nth w j) u) → waiting (after s (Post (nth w j) u)) (nth w (suc j)) ≡ waiting s (nth w (suc j)) ++ (entry-of u a b P false ∷ [])
+  posted-behind : Accepted s (Post (nth w j) u) → waiting (after s (Post (nth w j) u)) (nth w (suc j)) ≡ waiting s (nth w (suc j)) ++ (the-P u a ∷ [])
   unfolding grounds named-grounds after edits edit
   posted-behind ok =
       let X = nth w (suc j) in
       let N = nth w j in
-      let y = P-is s u a b N (at-P s u a b N (posted j) (o .stands) (clear (grounds s (Post N u)) ok .1 .0)) in
+      let y = P-is s u a true N (at-P s u a true N (posted j) (o .stands) (clear (grounds s (Post N u)) ok .1 .0)) in
       let f = alter (is-named P u) gone in
       let there = nth-there (s .table) (g .rules .passes) (u .master) a has-master (suc j) l in
       let c = counts (s .table) (passed (s .table) (g .rules .passes) .counts) in
       let h = ltb-true (X .0) (chan-count (s .table)) there in
-      ap (λ (ds : List Edit). waiting (edits ds s) X) (post-effects s g u a b has-master N (Through X) (entry-of u a b P false) (ahead-on s g u a b has-master j l P false y) y)
-      ∙ modify-here (modify (s .chans) (N .0) f) (X .0) (λ r. r ++ (entry-of u a b P false ∷ [])) [] (omega (arith, length-modify (s .chans) (N .0) f, g .channels, c .agents .1, c .bridges))
-      ∙ ap (_++ (entry-of u a b P false ∷ [])) (getD-modify-other (s .chans) (N .0) (X .0) f [] (λ e. another (sym e)))
+      ap (λ (ds : List Edit). waiting (edits ds s) X) (post-effects s g u a true has-master N (Through X) (the-P u a) (ahead-on s g u a true has-master j l P false y) y)
+      ∙ modify-here (modify (s .chans) (N .0) f) (X .0) (λ r. r ++ (the-P u a ∷ [])) [] (omega (arith, length-modify (s .chans) (N .0) f, g .channels, c .agents .1, c .bridges))
+      ∙ ap (_++ (the-P u a ∷ [])) (getD-modify-other (s .chans) (N .0) (X .0) f [] (λ e. another (sym e)))
 
 -- ---- in every state reached
 
@@ -94,36 +95,34 @@ head-same e = cc
 abbrev pub number-of : Transaction → ℕ → Transaction
 number-of t n = record { master = t .master; number = n }
 
--- t to a, and a later one of the same master to a′
-module _ (t : Transaction) (n : ℕ) (less : t .number < n) (a a′ : Agent) where
+-- t's P, to a, stands in N, and u's, to a′, behind it
+abbrev pub Behind : (t u : Transaction) (a a′ : Agent) → Net → Chan → Type 0
+Behind t u a a′ s N = only (is-either t u) (waiting s N) ≡ the-P t a ∷ the-P u a′ ∷ []
+
+-- ground 9
+pub blocked : (t u : Transaction) (a a′ : Agent) → (t ≡ u → ⊥) → (s : Net) (N : Chan) → Accepted s (Post N u) → Behind t u a a′ s N → ⊥
+unfolding grounds named-grounds
+blocked t u a a′ differ s N ok h =
+    both (behind-P P u (waiting s N))
+    (held-back t u (the-P t a) (the-P u a′) refl not-its-name (waiting s N) h)
+    (clear (grounds s (Post N u)) ok .1 .1 .0)
+  where
+    not-its-name : is-named P u (the-P t a) ≡ false
+    not-its-name = split (is-named P u (the-P t a)) (λ y. absurd (differ (named-is-its-own P u (the-P t a) y .1))) (λ z. z)
+
+-- t to a, and one of the same master with number n to a′
+module _ (t : Transaction) (n : ℕ) (a a′ : Agent) where
   abbrev u : Transaction
   u = number-of t n
 
   abbrev m : Agent
   m = t .master
 
-  pub two : t ≡ u → ⊥
-  two e = let z : t .number ≡ n = ap (λ (t : Transaction). t .number) e in omega arith
-
-  -- the P of t stands in N, and that of u behind it
-  abbrev pub Behind : Net → Chan → Bool → Bool → Type 0
-  Behind s N b c = only (is-either t u) (waiting s N) ≡ entry-of t a b P false ∷ entry-of u a′ c P false ∷ []
-
-  -- ground 9
-  pub blocked : (s : Net) (N : Chan) (b c : Bool) → Accepted s (Post N u) → Behind s N b c → ⊥
-  unfolding grounds named-grounds
-  blocked s N b c ok h =
-      both (behind-P P u (waiting s N))
-      (held-back t u (entry-of t a b P false) (entry-of u a′ c P false) refl (not-its-name b) (waiting s N) h)
-      (clear (grounds s (Post N u)) ok .1 .1 .0)
-    where
-      not-its-name : (b : Bool) → is-named P u (entry-of t a b P false) ≡ false
-      not-its-name b = split (is-named P u (entry-of t a b P false)) (λ y. absurd (two (named-is-its-own P u (entry-of t a b P false) y .1))) (λ z. z)
-
-  pub begin-line : (s : Net) → Reached s → (b c : Bool) → Accepted s (BeginPosted m a′) → transaction-of s (BeginPosted m a′) ≡ u → OnCourse s t (course a b (posted 0))
-      → OnCourse (after s (BeginPosted m a′)) u (course a′ c (posted 0)) → Behind (after s (BeginPosted m a′)) (master-channel m) b c
+  -- u begins in t's channel
+  pub begin-line : (s : Net) → Reached s → Accepted s (BeginPosted m a′) → transaction-of s (BeginPosted m a′) ≡ u → PostedAt s t a 0
+      → PostedAt (after s (BeginPosted m a′)) u a′ 0 → Behind t u a a′ (after s (BeginPosted m a′)) (master-channel m)
   unfolding pieces
-  begin-line s r b c ok e o p =
+  begin-line s r ok e o p =
       let g = reached-is-good s r in
       let N = master-channel m in
       let r′ = its-number s g m a′ (BeginPosted m a′) numbers.posted ok in
@@ -134,24 +133,24 @@ module _ (t : Transaction) (n : ℕ) (less : t .number < n) (a a′ : Agent) whe
       let nothing = nothing-yet s g u (d .0) (d .1) (ap (within 1 (begun s m)) y ∙ next-is-not (begun s m)) N in
       let mine : is-of u z ≡ true = one-is-same v in
       let alone : only (is-of u) (waiting s N ++ (z ∷ [])) ≡ z ∷ [] = only-append (is-of u) (waiting s N) (z ∷ []) ∙ rw (nothing, only-one (is-of u) z mine) in
-      let same : z ≡ entry-of u a′ c P false =
-      head-same (sym alone ∙ ap (only (is-of u)) (sym (r′ .enters)) ∙ p .stands N ∙ held-one N (entry-of u a′ c P false)) in
+      let same : z ≡ the-P u a′ =
+      head-same (sym alone ∙ ap (only (is-of u)) (sym (r′ .enters)) ∙ p .stands N ∙ held-one N (the-P u a′)) in
       ap (only (is-either t u)) (r′ .enters)
-      ∙ line-up t u (waiting s N) (entry-of t a b P false) z (o .stands N ∙ held-one N (entry-of t a b P false)) nothing mine
-      ∙ ap (λ (z : Entry). entry-of t a b P false ∷ z ∷ []) same
+      ∙ line-up t u (waiting s N) (the-P t a) z (o .stands N ∙ held-one N (the-P t a)) nothing mine
+      ∙ ap (λ (z : Entry). the-P t a ∷ z ∷ []) same
 
   -- u is posted into t's channel
-  pub post-line : (s : Net) (g : Good s) (b c : Bool) (i j : ℕ) → (l : j < bridges-between (s .table) m a′) → Accepted s (Post (nth (way-channels (s .table) m a′) j) u)
+  pub post-line : (s : Net) (g : Good s) (i j : ℕ) → (l : j < bridges-between (s .table) m a′) → Accepted s (Post (nth (way-channels (s .table) m a′) j) u)
       → nth (way-channels (s .table) m a) i ≡ nth (way-channels (s .table) m a′) (suc j)
-      → OnCourse s t (course a b (posted i)) → OnCourse s u (course a′ c (posted j))
-      → Behind (after s (Post (nth (way-channels (s .table) m a′) j) u)) (nth (way-channels (s .table) m a) i) b c
+      → PostedAt s t a i → PostedAt s u a′ j
+      → Behind t u a a′ (after s (Post (nth (way-channels (s .table) m a′) j) u)) (nth (way-channels (s .table) m a) i)
   unfolding pieces
-  post-line s g b c i j l ok e o p =
+  post-line s g i j l ok e o p =
       let X = nth (way-channels (s .table) m a) i in
       let e′ = nth (way-channels (s .table) m a′) (suc j) in
       ap (λ (M : Chan). only (is-either t u) (waiting (after s (Post (nth (way-channels (s .table) m a′) j) u)) M)) e
-      ∙ ap (only (is-either t u)) (posted-behind s g u a′ c j p l ok)
-      ∙ line-up t u (waiting s e′) (entry-of t a b P false) (entry-of u a′ c P false)
-      (subst (λ (M : Chan). only (is-of t) (waiting s M) ≡ entry-of t a b P false ∷ []) e (o .stands X ∙ held-one X (entry-of t a b P false)))
-      (not-there-yet s g u a′ c j p l)
+      ∙ ap (only (is-either t u)) (posted-behind s g u a′ j p l ok)
+      ∙ line-up t u (waiting s e′) (the-P t a) (the-P u a′)
+      (subst (λ (M : Chan). only (is-of t) (waiting s M) ≡ the-P t a ∷ []) e (o .stands X ∙ held-one X (the-P t a)))
+      (not-there-yet s g u a′ j p l)
       (one-is-same {t = u} refl)
