@@ -4,7 +4,7 @@ pub mod Edited
 pub mod EachEdit
 pub mod Others
 pub mod Standing
-pub mod Sighted
+pub mod Shown
 pub mod Placed
 pub mod Advanced
 pub mod Own

@@ -24,7 +24,7 @@ use Rattle.courses.specs.Stages.{Stage, unbegun, posted, asked, answered
 use Rattle.courses.specs.Courses.{requests, pieces, entry-of}
 use Rattle.courses.proofs.Edited.{At}
 use Rattle.courses.proofs.Standing.{own-name, in-requests, requests-in}
-use Rattle.courses.proofs.Sighted.{Here, here-is, shown}
+use Rattle.courses.proofs.Shown.{Here, here-is, shown}
 
 module _ (s : Net) (t : Transaction) (a : Agent) (write : Bool) where
   abbrev T : Table

@@ -1,4 +1,4 @@
--- Document 01's ten records, those accepted: the state is reached, and after each of them the read is at this stage.
+-- Document 01's ten records, those accepted: the last state is reached, and after each of them the read is at the stage named.
 -- The definitions compute: what waits in the channels is what the stage says.
 use mathlib.Core.Path.{_≡_, refl}
 use mathlib.Core.Bool.{true, false}

@@ -1,4 +1,4 @@
--- What stands of a transaction in a state is what its stage says; and how an event moves it.
+-- The course of a transaction: what stands of it in a state is what its stage says, and an event moves it from stage to stage.
 use Prim.Native.Nat.{ℕ, suc}
 use mathlib.Core.Path.{_≡_}
 use mathlib.Core.Bool.{Bool, true, false}
@@ -21,12 +21,13 @@ use Rattle.events.specs.Effects.{next-number}
 use Rattle.courses.specs.Pieces.{Piece, piece, held-in}
 use Rattle.courses.specs.Stages.{Stage, unbegun, posted, asked, answered, ended, has-begun, Fits, Moves}
 
--- ---- what stands of a transaction on the way w, stage by stage; x k mark is its entry of kind k
+-- ---- what stands at each stage, on the way w; x k mark is the transaction's entry of kind k
 
--- marked R's in the first n channels
+-- a marked R in each of the first n channels
 abbrev pub requests : List Chan → (ℕ → Bool → Entry) → ℕ → List Piece
 requests w x n = map (λ N. piece N (x R true)) (take n w)
 
+-- nothing; or one P; or R's in the channels 0 to j, marked before j; or these with a C in the opposite of j + 1, and then the R in j is marked too
 unfoldable pub pieces : Table → List Chan → (ℕ → Bool → Entry) → Stage → List Piece
 pieces T w x unbegun = []
 pieces T w x (posted i) = piece (nth w i) (x P false) ∷ []
@@ -36,7 +37,7 @@ pieces T w x ended = []
 
 -- ---- the course of a transaction
 
--- where nothing stands, target and write are any
+-- a stage, and the target and read or write that its entries carry; where nothing stands these are any
 pub record Course : Type 0 where
   pub target : Agent
   pub write : Bool
@@ -64,6 +65,7 @@ pub record OnCourse (s : Net) (t : Transaction) (c : Course) : Type 0 where
 
 -- ---- an event's transaction, and how it moves it
 
+-- a begin's is the one that it begins
 abbrev pub transaction-of : Net → Event → Transaction
 transaction-of s (BeginPosted m a) = record { master = m; number = next-number s m }
 transaction-of s (BeginRead m a) = record { master = m; number = next-number s m }
@@ -75,13 +77,7 @@ transaction-of s (Complete N t) = t
 transaction-of s (DropRequest N t) = t
 transaction-of s (DropCompletion N t) = t
 
--- it names t's R in N
-pub data NamesR (N : Chan) (t : Transaction) : Event → Type 0 where
-  commit : NamesR N t (Commit N t)
-  latch : NamesR N t (Latch N t)
-  complete : NamesR N t (Complete N t)
-  drop : NamesR N t (DropRequest N t)
-
+-- its own transaction: a begin starts it, and all other kinds move it as the table of moves says, with target and read or write as they are
 pub data Advances (T : Table) (t : Transaction) : Course → Event → Course → Type 0 where
   begins-posted : (c : Course) (a : Agent) → c .stage ≡ unbegun → Advances T t c (BeginPosted (t .master) a) (course a true (posted 0))
   begins-read : (c : Course) (a : Agent) → c .stage ≡ unbegun → Advances T t c (BeginRead (t .master) a) (course a false (asked 0 false))
@@ -93,3 +89,10 @@ pub data Advances (T : Table) (t : Transaction) : Course → Event → Course �
 pub data Follows (s : Net) (t : Transaction) (c : Course) (e : Event) (d : Course) : Type 0 where
   stays : (transaction-of s e ≡ t → ⊥) → c ≡ d → Follows s t c e d
   goes : transaction-of s e ≡ t → Advances (s .table) t c e d → Follows s t c e d
+
+-- an event that names t's R in N
+pub data NamesR (N : Chan) (t : Transaction) : Event → Type 0 where
+  commit : NamesR N t (Commit N t)
+  latch : NamesR N t (Latch N t)
+  complete : NamesR N t (Complete N t)
+  drop : NamesR N t (DropRequest N t)
