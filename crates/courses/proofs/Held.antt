@@ -10,7 +10,7 @@ use mathlib.Core.Option.{some}
 use mathlib.Core.List.{List, [], _∷_, _++_, map}
 use borrow.Author.Tests.{eqb-true, eq-eqb, ne-eqb}
 use Rattle.base.specs.Lists.{find, alter, count, is-some}
-use Rattle.base.proofs.Logic.{split, none-some}
+use Rattle.base.proofs.Logic.{split, none-some, equal?}
 use Rattle.base.proofs.Cells.{In, first, later, in-none, in-cons}
 use Rattle.base.proofs.Queues.{count-add}
 use Rattle.chassis.specs.declared.Chan.{Chan}
@@ -74,7 +74,7 @@ module _ (N : Chan) where
       (λ f. on (rw f at i))
 
   -- none of them stands in N
-  pub none-held : (L : List Piece) → ((q : Piece) → In q L → N .0 ≡ q .place .0 → ⊥) → held-in N L ≡ []
+  none-held : (L : List Piece) → ((q : Piece) → In q L → N .0 ≡ q .place .0 → ⊥) → held-in N L ≡ []
   unfolding held-in
   none-held [] h = refl
   none-held (q ∷ L) h = rw (ne-eqb (N .0) (q .place .0) (h q first)) (none-held L (λ r i. h r (later i)))
@@ -94,8 +94,19 @@ module _ (N : Chan) where
       (λ t. split (p (q .entry)) (λ y. simp (t, y) (le-refl 1)) (λ n. simp (t, n) (omega arith)))
       (λ f. simp f (omega arith))
 
-  pub both-counted : (p : Entry → Bool) (L M : List Piece) → count p (held-in N (L ++ M)) ≡ count p (held-in N L) + count p (held-in N M)
+  both-counted : (p : Entry → Bool) (L M : List Piece) → count p (held-in N (L ++ M)) ≡ count p (held-in N L) + count p (held-in N M)
   both-counted p L M = ap (count p) (held-append N L M) ∙ count-add p (held-in N L) (held-in N M)
+
+  -- where at most one counts, and none stands in M, at most one counts with one more in M
+  pub once-more : (p : Entry → Bool) (L : List Piece) (M : Chan) (y : Entry) → ((q : Piece) → In q L → q .place ≡ M → ⊥) → count p (held-in N L) ≤ 1
+      → count p (held-in N (L ++ (piece M y ∷ []))) ≤ 1
+  unfolding count
+  once-more p L M y apart l =
+      let v = both-counted p L (piece M y ∷ []) in
+      ⊎-elim
+      (λ e. let z = ap (count p) (none-held L (λ q i d. apart q i (chan-path (sym d ∙ e)))) in omega (arith, one-counted p (piece M y)))
+      (λ n. let z = ap (count p) (held-no N M y n) in omega arith)
+      (equal? (N .0) (M .0))
 
 -- ---- pieces changed
 

@@ -75,17 +75,16 @@ module _ (s : Net) (g : Good s) (t : Transaction) (a : Agent) (write : Bool) (ha
   committed : {A : Type 0} (N : Chan) → is-committed s N t ≡ false → entry-at s R N t ≡ x R true → A
   committed N h e = absurd (both true refl (uncommitted N true h e))
 
+  to-asked : (e : Event) (h : Stage) (j : ℕ) (b : Bool) → j ≤ k → At T t a write (after s e) (asked j b) → Moves T w k t h e (asked j b) → Moved s t a write e h
+  to-asked e h j b l n m = record { to = asked j b; now = n; fits = l; by = m; begun = refl }
+
   -- commit
 
   commit-last : (N : Chan) (j : ℕ) (b : Bool) → b ≡ false → N ≡ nth w j → At T t a write s (asked j b) → j ≤ k → Moved s t a write (Commit N t) (asked j b)
   commit-last N j true z e o l = absurd (both true refl z)
-  commit-last N j false z e o l = record {
-    to = asked j true;
-    now = subst⁻¹ (λ (M : Chan). At T t a write (after s (Commit M t)) (asked j true)) e (commit-at s g t a write has j l o);
-    fits = l;
-    by = commits N j e;
-    begun = refl;
-  }
+  commit-last N j false z e o l =
+      to-asked (Commit N t) (asked j false) j true l
+      (subst⁻¹ (λ (M : Chan). At T t a write (after s (Commit M t)) (asked j true)) e (commit-at s g t a write has j l o)) (commits N j e)
 
   commit-by : (N : Chan) (h : Stage) → At T t a write s h → Fits k h → is-committed s N t ≡ false → AtR s t a write N h → Moved s t a write (Commit N t) h
   commit-by N _ o f c (last j b e y) = commit-last N j b (uncommitted N b c y) e o f
@@ -127,13 +126,8 @@ module _ (s : Net) (g : Good s) (t : Transaction) (a : Agent) (write : Bool) (ha
   latch-by : (N : Chan) (h : Stage) → At T t a write s h → Fits k h → is-target (ahead s R N t) ≡ false → latched-already s t (ahead s R N t) ≡ false → AtR s t a write N h → Moved s t a write (Latch N t) h
   latch-by N _ o f d c (last j b e y) =
       ⊎-elim
-      (λ l. record {
-        to = asked (suc j) false;
-        now = subst⁻¹ (λ (M : Chan). At T t a write (after s (Latch M t)) (asked (suc j) false)) e (latch-at s g t a write has j l b (at-nth R N j e y) o);
-        fits = l;
-        by = latches N j b e l;
-        begun = refl;
-      })
+      (λ l. to-asked (Latch N t) (asked j b) (suc j) false l
+      (subst⁻¹ (λ (M : Chan). At T t a write (after s (Latch M t)) (asked (suc j) false)) e (latch-at s g t a write has j l b (at-nth R N j e y) o)) (latches N j b e l))
       (λ q.
       let e′ : N ≡ nth w k = e ∙ ap (nth w) q in
       let p : ahead s R N t ≡ Target = ap (λ (M : Chan). ahead s R M t) e′ ∙ ahead-last s g t a write has R b (at-nth R N k e′ y) in
@@ -192,13 +186,9 @@ module _ (s : Net) (g : Good s) (t : Transaction) (a : Agent) (write : Bool) (ha
   drop-last : (N : Chan) (j : ℕ) (b : Bool) → b ≡ false → N ≡ nth w j → At T t a write s (asked j b) → j ≤ k → is-master T N ≡ false → Moved s t a write (DropRequest N t) (asked j b)
   drop-last N j true z e o l m = absurd (both true refl z)
   drop-last N zero false z e o l m = absurd (both (is-master T (nth w 0)) has (sym (ap (is-master T) e) ∙ m))
-  drop-last N (suc j) false z e o l m = record {
-    to = asked j true;
-    now = subst⁻¹ (λ (M : Chan). At T t a write (after s (DropRequest M t)) (asked j true)) e (drop-request-at s g t a write has j l o);
-    fits = omega arith;
-    by = drops-request N j e;
-    begun = refl;
-  }
+  drop-last N (suc j) false z e o l m =
+      to-asked (DropRequest N t) (asked (suc j) false) j true (omega arith)
+      (subst⁻¹ (λ (M : Chan). At T t a write (after s (DropRequest M t)) (asked j true)) e (drop-request-at s g t a write has j l o)) (drops-request N j e)
 
   drop-by : (N : Chan) (h : Stage) → At T t a write s h → Fits k h → is-master T N ≡ false → is-committed s N t ≡ false → AtR s t a write N h → Moved s t a write (DropRequest N t) h
   drop-by N _ o f m c (last j b e y) = drop-last N j b (uncommitted N b c y) e o f m
@@ -206,13 +196,9 @@ module _ (s : Net) (g : Good s) (t : Transaction) (a : Agent) (write : Bool) (ha
   drop-by N _ o f m c (behind j i l e y) = committed N c y
 
   drop-C-by : (N : Chan) (h : Stage) → At T t a write s h → Fits k h → AtC s t a write N h → Moved s t a write (DropCompletion N t) h
-  drop-C-by N _ o f (back j e) = record {
-    to = asked j true;
-    now = subst⁻¹ (λ (M : Chan). At T t a write (after s (DropCompletion M t)) (asked j true)) e (drop-completion-at s g t a write has j f o);
-    fits = omega arith;
-    by = drops-completion N j e;
-    begun = refl;
-  }
+  drop-C-by N _ o f (back j e) =
+      to-asked (DropCompletion N t) (answered j) j true (omega arith)
+      (subst⁻¹ (λ (M : Chan). At T t a write (after s (DropCompletion M t)) (asked j true)) e (drop-completion-at s g t a write has j f o)) (drops-completion N j e)
 
 -- ---- with what the grounds have found
 

@@ -3,11 +3,10 @@
 use mathlib.Core.Path.{_≡_, refl}
 use mathlib.Core.Bool.{true, false}
 use mathlib.Core.List.{List, [], _∷_, map}
-use lib.ListN.{replicate}
 use Rattle.base.specs.Lists.{find, alter, only, count, all, any, modify, from-to}
 use Rattle.chassis.specs.declared.Table.{Table}
-use Rattle.chassis.specs.Numbers.{agent, bus, chan}
-use Rattle.chassis.specs.Channels.{no-bridge, out-bus, opposite}
+use Rattle.chassis.specs.Numbers.{agent, chan}
+use Rattle.chassis.specs.Channels.{out-bus, opposite}
 use Rattle.chassis.specs.Routes.{component, loop-free, all-joined, one-way, way-over, next-place}
 use Rattle.chassis.specs.Tables.{counts-in-range, unused-are-zero, buses-are-there, a-bridge-on-one-bus, table-grounds, table-passes}
 use Rattle.queue.specs.declared.Transaction.{Transaction}
@@ -20,25 +19,19 @@ use Rattle.events.specs.declared.Event.the-variants.{BeginPosted, BeginRead, Po
 use Rattle.events.specs.Grounds.{begin-grounds, named-grounds, grounds}
 use Rattle.events.specs.Effects.{new-entry, effects, after}
 use Rattle.events.specs.Reached.{Reached, at-first, and-then}
+use Rattle.events.proofs.TrialTable.{T-with, its}
 use Rattle.courses.specs.Pieces.{held-in}
 use Rattle.courses.specs.Stages.{Stage, unbegun, asked, answered, ended}
 use Rattle.courses.specs.Courses.{pieces, course, standing}
 
 abbrev T : Table
-T = record {
-  buses = 2;
-  bridges = 1;
-  agents = 2;
-  limits = 2 ∷ 1 ∷ 1 ∷ [];
-  pairs = record { first = bus 0; second = bus 1 } ∷ replicate 14 no-bridge;
-  homes = bus 0 ∷ bus 1 ∷ replicate 30 (bus 0);
-}
+T = T-with 2 1 1
 
 abbrev write : Transaction
-write = record { master = agent 0; number = 1 }
+write = its 1
 
 abbrev read : Transaction
-read = record { master = agent 0; number = 2 }
+read = its 2
 
 -- the state after the first, the second, .. of them
 abbrev s₁ : Net
@@ -63,11 +56,11 @@ abbrev s₇ : Net
 s₇ = after s₆ (Complete (chan 0) read)
 
 T-passes : table-passes T ≡ true
-unfolding table-passes table-grounds counts-in-range unused-are-zero buses-are-there a-bridge-on-one-bus one-way loop-free all-joined component all any from-to
+unfolding T-with table-passes table-grounds counts-in-range unused-are-zero buses-are-there a-bridge-on-one-bus one-way loop-free all-joined component all any from-to
 T-passes = refl
 
 pub it-is-reached : Reached s₇
-unfolding empty-net after effects edits edit grounds begin-grounds named-grounds new-entry next-place way-over component out-bus opposite find alter count modify is-named marked as-kind behind-P first-C filling
+unfolding T-with empty-net after effects edits edit grounds begin-grounds named-grounds new-entry next-place way-over component out-bus opposite find alter count modify is-named marked as-kind behind-P first-C filling
 it-is-reached =
     and-then s₆ (Complete (chan 0) read)
     (and-then s₅ (Complete (chan 2) read)
@@ -86,5 +79,5 @@ says h = map (λ N. held-in N (standing T read (course (agent 1) false h))) (cha
 
 pub its-stages : (waits s₁ ≡ says unbegun) × (waits s₂ ≡ says (asked 0 false)) × (waits s₃ ≡ says (asked 0 false)) × (waits s₄ ≡ says (asked 1 false))
     × (waits s₅ ≡ says (asked 1 false)) × (waits s₆ ≡ says (answered 0)) × (waits s₇ ≡ says ended)
-unfolding only held-in pieces empty-net after effects edits edit new-entry next-place way-over component out-bus opposite find alter count modify is-named marked as-kind
+unfolding T-with only held-in pieces empty-net after effects edits edit new-entry next-place way-over component out-bus opposite find alter count modify is-named marked as-kind
 its-stages = (refl, refl, refl, refl, refl, refl, refl)

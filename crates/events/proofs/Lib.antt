@@ -4,6 +4,7 @@ pub mod TakenSteps
 pub mod BeginNumbers
 pub mod EveryStepMoves
 pub mod CloseAtHand
+pub mod TrialTable
 pub mod Kept
 pub mod SoundStays
 pub mod FirstBegins

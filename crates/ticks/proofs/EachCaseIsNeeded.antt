@@ -5,17 +5,15 @@ use mathlib.Core.Path.{_≡_, refl, ap}
 use mathlib.Core.Bool.{Bool, true, false, _||_}
 use mathlib.Core.List.{List, [], _∷_, map}
 use mathlib.Core.Option.{Option, none, some}
-use lib.ListN.{replicate}
 use lib.Dec.{eqb}
 use Rattle.base.specs.Lists.{find, alter, count, all, any, modify, from-to}
 use Rattle.base.specs.Grounds.{refusal}
 use Rattle.base.proofs.Orders.{All, all-map}
 use Rattle.chassis.specs.declared.Table.{Table}
 use Rattle.chassis.specs.Numbers.{agent, bus, chan, same-agent, same-bus}
-use Rattle.chassis.specs.Channels.{no-bridge, out-bus, opposite}
+use Rattle.chassis.specs.Channels.{out-bus, opposite}
 use Rattle.chassis.specs.Routes.{component, loop-free, all-joined, one-way, way-over, next-place}
 use Rattle.chassis.specs.Tables.{counts-in-range, unused-are-zero, buses-are-there, a-bridge-on-one-bus, table-grounds, table-passes}
-use Rattle.queue.specs.declared.Transaction.{Transaction}
 use Rattle.queue.specs.Entries.{is-named, marked, as-kind}
 use Rattle.queue.specs.Queues.{behind-P, first-C}
 use Rattle.network.specs.Rooms.{room-for}
@@ -26,6 +24,7 @@ use Rattle.events.specs.declared.Event.the-variants.{BeginRead, BeginWrite, Com
 use Rattle.events.specs.Grounds.{begin-grounds, named-grounds, grounds, Accepted}
 use Rattle.events.specs.Effects.{new-entry, effects, value, after}
 use Rattle.events.specs.Reached.{Reached, at-first, and-then}
+use Rattle.events.proofs.TrialTable.{T-with, its}
 use Rattle.ticks.specs.Footings.{Footing, footing}
 use Rattle.ticks.specs.Conflicts.{alike, same-name, drops-the-tried, drops-where-taken, clash, conflict}
 use Rattle.ticks.specs.Ticks.{end-of}
@@ -58,17 +57,6 @@ lines-are-all e f =
 
 -- ---- the rows
 
--- document 01's T, with these limits: 2 buses, bridge (0, 1), agents 0 and 1 on buses 0 and 1
-unfoldable pub T-with : ℕ → ℕ → ℕ → Table
-T-with p r c = record {
-  buses = 2;
-  bridges = 1;
-  agents = 2;
-  limits = p ∷ r ∷ c ∷ [];
-  pairs = record { first = bus 0; second = bus 1 } ∷ replicate 14 no-bridge;
-  homes = bus 0 ∷ bus 1 ∷ replicate 30 (bus 0);
-}
-
 -- two events after those before; `line` counts the cases from 0
 pub record Row : Type 0 where
   pub table : Table
@@ -77,10 +65,6 @@ pub record Row : Type 0 where
   pub second : Event
   pub line : ℕ
   pub refused : ℕ
-
--- transaction n of agent 0
-abbrev pub its : ℕ → Transaction
-its n = record { master = agent 0; number = n }
 
 -- agent 0 reads agent 1
 abbrev reads : Event

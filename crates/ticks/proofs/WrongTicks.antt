@@ -35,6 +35,7 @@ use Rattle.events.specs.Grounds.{begin-grounds, named-grounds, grounds, Accepte
 use Rattle.events.specs.Effects.{new-entry, effects, value, after}
 use Rattle.events.specs.Steps.{record-grounds}
 use Rattle.events.proofs.WrongModels.{Handed}
+use Rattle.events.proofs.TrialTable.{T-with, its}
 use Rattle.ticks.specs.declared.TickAnswer.{TickAnswer}
 use Rattle.ticks.specs.declared.TickAnswer.the-variants as tick-answer
 use Rattle.ticks.specs.Footings.{footing}
@@ -44,7 +45,6 @@ use Rattle.ticks.proofs.OrderCannotMatter.{Played, at-end, one-more, Ag
 use Rattle.ticks.proofs.Searches.{refuses-none}
 use Rattle.ticks.proofs.TickAcceptsExactly.{stays-right}
 use Rattle.ticks.proofs.Verdicts.{Tick, tick-by, alone, plays-by}
-use Rattle.ticks.proofs.EachCaseIsNeeded.{T-with, its}
 
 -- what a caller can hand in: a value of the declared state, bytes, and a list of numbers of two bytes
 pub record Lent (s : State) (b out : List ℕ) : Type 0 where
