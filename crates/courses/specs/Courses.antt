@@ -1,7 +1,7 @@
 -- The course of a transaction: what stands of it in a state is what its stage says, and an event moves it from stage to stage.
 use Prim.Native.Nat.{ℕ, suc}
 use mathlib.Core.Path.{_≡_}
-use mathlib.Core.Bool.{Bool, true, false}
+use mathlib.Core.Bool.{Bool, true, false, cond}
 use mathlib.Core.List.{List, [], _∷_, _++_, map}
 use lib.ListN.{take}
 use Rattle.base.specs.Lists.{only}
@@ -17,6 +17,7 @@ use Rattle.queue.specs.Entries.{P, R, C, is-of}
 use Rattle.network.specs.Nets.{Net, waiting, begun}
 use Rattle.events.specs.declared.Event.{Event}
 use Rattle.events.specs.declared.Event.the-variants.{BeginPosted, BeginRead, BeginWrite, Commit, Post, Latch, Complete, DropRequest, DropCompletion}
+use Rattle.events.specs.Accounts.{account}
 use Rattle.events.specs.Effects.{next-number}
 use Rattle.courses.specs.Pieces.{Piece, piece, held-in}
 use Rattle.courses.specs.Stages.{Stage, unbegun, posted, asked, answered, ended, has-begun, Fits, Moves}
@@ -67,15 +68,10 @@ pub record OnCourse (s : Net) (t : Transaction) (c : Course) : Type 0 where
 
 -- a begin's is the one that it begins
 abbrev pub transaction-of : Net → Event → Transaction
-transaction-of s (BeginPosted m a) = record { master = m; number = next-number s m }
-transaction-of s (BeginRead m a) = record { master = m; number = next-number s m }
-transaction-of s (BeginWrite m a) = record { master = m; number = next-number s m }
-transaction-of s (Commit N t) = t
-transaction-of s (Post N t) = t
-transaction-of s (Latch N t) = t
-transaction-of s (Complete N t) = t
-transaction-of s (DropRequest N t) = t
-transaction-of s (DropCompletion N t) = t
+transaction-of s e =
+    cond (account e .begins)
+    (record { master = account e .name .master; number = next-number s (account e .name .master) })
+    (account e .name)
 
 -- its own transaction: a begin starts it, and all other kinds move it as the table of moves says, with target and read or write as they are
 pub data Advances (T : Table) (t : Transaction) : Course → Event → Course → Type 0 where

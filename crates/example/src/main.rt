@@ -12,15 +12,15 @@ use chassis::NextPlace;
 use chassis::RouteAnswer;
 use chassis::Table;
 use chassis::TableAnswer;
-use find_routes::routes::route;
-use play_ticks::at_once::tick;
 use events::Answer;
+use find_routes::routes::route;
 use lent_tables::Numbers;
 use lent_tables::lends::check_arrays;
 use network::State;
 use network::open;
 use network::zero;
 use play_events::steps::step;
+use play_ticks::at_once::tick;
 use ticks::TickAnswer;
 
 fn bridge(first: Bus, second: Bus) -> Bridge {

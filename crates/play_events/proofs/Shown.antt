@@ -27,6 +27,7 @@ use Rattle.queue.specs.code.Changes.{look-of}
 use Rattle.queue.specs.Packing.{live}
 use Rattle.network.specs.declared.State.{State}
 use Rattle.network.specs.Nets.{Net, view, waiting, begun, full}
+use Rattle.network.specs.Rooms.{room-for}
 use Rattle.network.specs.code.Acts.{channel-at}
 use Rattle.events.specs.declared.Event.{Event}
 use Rattle.events.specs.declared.Event.the-variants.{BeginPosted, BeginRead, BeginWrite, Commit, Post, Latch, Complete, DropRequest, DropCompletion}
