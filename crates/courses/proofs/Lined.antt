@@ -27,7 +27,7 @@ use Rattle.queue.specs.declared.Entry.{Entry}
 use Rattle.queue.specs.Entries.{P, is-of, is-named, gone}
 use Rattle.queue.specs.Queues.{stands, behind-P}
 use Rattle.queue.proofs.Plainly.{named-is-its-own}
-use Rattle.queue.proofs.Names.{one-is-same, is-either, of-second, held-back}
+use Rattle.queue.proofs.Names.{one-is-same, is-named-so, is-either, of-second, held-back}
 use Rattle.network.specs.Nets.{Net, waiting, begun}
 use Rattle.network.specs.Edits.{Edit, edit, edits}
 use Rattle.network.proofs.Good.{Good}
@@ -104,7 +104,7 @@ pub blocked : (t u : Transaction) (a a′ : Agent) → (t ≡ u → ⊥) → (s 
 unfolding grounds named-grounds
 blocked t u a a′ differ s N ok h =
     both (behind-P P u (waiting s N))
-    (held-back t u (the-P t a) (the-P u a′) refl not-its-name (waiting s N) h)
+    (held-back t u (the-P t a) (the-P u a′) refl not-its-name (is-named-so u (the-P u a′) P refl refl) (waiting s N) h)
     (clear (grounds s (Post N u)) ok .1 .1 .0)
   where
     not-its-name : is-named P u (the-P t a) ≡ false

@@ -12,8 +12,9 @@ use Rattle.chassis.specs.Tables.{counts-in-range, unused-are-zero, buses-are-th
 use Rattle.queue.specs.declared.Transaction.{Transaction}
 use Rattle.queue.specs.declared.Entry.{Entry}
 use Rattle.queue.specs.Entries.{is-of, is-named, marked, as-kind}
-use Rattle.queue.specs.Queues.{behind-P, first-C, filling}
+use Rattle.queue.specs.Queues.{behind-P, first-C}
 use Rattle.network.specs.Nets.{Net, empty-net, waiting}
+use Rattle.network.specs.Rooms.{room-for, rooms}
 use Rattle.network.specs.Edits.{edit, edits}
 use Rattle.events.specs.declared.Event.the-variants.{BeginPosted, BeginRead, Post, Latch, Complete}
 use Rattle.events.specs.Grounds.{begin-grounds, named-grounds, grounds}
@@ -60,7 +61,7 @@ unfolding T-with table-passes table-grounds counts-in-range unused-are-zero buse
 T-passes = refl
 
 pub it-is-reached : Reached s₇
-unfolding T-with empty-net after effects edits edit grounds begin-grounds named-grounds new-entry next-place way-over component out-bus opposite find alter count modify is-named marked as-kind behind-P first-C filling
+unfolding T-with empty-net after effects edits edit grounds begin-grounds named-grounds new-entry next-place way-over component out-bus opposite find alter count modify is-named marked as-kind behind-P first-C room-for rooms
 it-is-reached =
     and-then s₆ (Complete (chan 0) read)
     (and-then s₅ (Complete (chan 2) read)

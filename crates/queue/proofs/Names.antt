@@ -5,14 +5,14 @@ use mathlib.Core.Path.{_≡_, refl, sym, ap}
 use mathlib.Core.Bool.{Bool, true, false, _||_}
 use mathlib.Core.List.{List, [], _∷_}
 use borrow.Author.Tests.{eq-eqb}
-use Rattle.base.specs.Lists.{only}
+use Rattle.base.specs.Lists.{find, only}
 use Rattle.base.proofs.Logic.{split, both, and-true, or-false}
 use Rattle.base.proofs.Cells.{true-or}
-use Rattle.base.proofs.Sifted.{cons-nil, only-one}
+use Rattle.base.proofs.Sifted.{cons-nil, only-one, find-only}
 use Rattle.queue.specs.declared.Transaction.{Transaction}
 use Rattle.queue.specs.declared.Entry.{Entry}
 use Rattle.queue.specs.Entries.{P, is-kind, same-transaction, is-of, is-named, marked, gone, marking}
-use Rattle.queue.specs.Queues.{behind-P}
+use Rattle.queue.specs.Queues.{stands, behind-P}
 use Rattle.queue.proofs.Plainly.{same-is-one, behind-P-past}
 
 -- ---- one transaction
@@ -54,13 +54,27 @@ module _ (t u : Transaction) where
   pub of-second : (x : Entry) → is-of u x ≡ true → is-either x ≡ true
   of-second x h = true-or (is-of t x) (is-of u x) h
 
+  -- who is behind a P is there
+  behind-is-there : (k : ℕ) (l : List Entry) → behind-P k u l ≡ true → stands k u l ≡ true
+  unfolding behind-P
+  behind-is-there k l h = and-true (stands k u l) _ h .0
+
+  last-stands : (k : ℕ) (y : Entry) → is-named k u y ≡ true → (l : List Entry) → only is-either l ≡ y ∷ [] → stands k u l ≡ true
+  unfolding find
+  last-stands k y m l h =
+      rw (← find-only is-either (is-named k u) (λ x n. of-second x (named-of u x k n)) l, h, m)
+
   -- the P of t stands before that of u: ground 9 for u
-  pub held-back : (x y : Entry) → is-kind P x ≡ true → is-named P u x ≡ false → (l : List Entry) → only is-either l ≡ x ∷ y ∷ [] → behind-P P u l ≡ true
+  pub held-back : (x y : Entry) → is-kind P x ≡ true → is-named P u x ≡ false → is-named P u y ≡ true → (l : List Entry) → only is-either l ≡ x ∷ y ∷ [] → behind-P P u l ≡ true
   unfolding only
-  held-back x y k n [] h = absurd (cons-nil (sym h))
-  held-back x y k n (z ∷ l) h =
+  held-back x y k n m [] h = absurd (cons-nil (sym h))
+  held-back x y k n m (z ∷ l) h =
       split (is-either z)
-      (λ o. let e : z ≡ x = cc (rw o at h) in rw (e, behind-P-past P u x l n, k))
+      (λ o.
+      let e : z ≡ x = cc (rw o at h) in
+      let r : only is-either l ≡ y ∷ [] = cc (rw o at h) in
+      rw (e, behind-P-past P u x l n, k) (last-stands P y m l r))
       (λ o.
       let q = split (is-named P u z) (λ y. absurd (both (is-of u z) (named-of u z P y) (or-false (is-of t z) (is-of u z) o .1))) (λ q. q) in
-      rw (behind-P-past P u z l q, true-or (is-kind P z) (behind-P P u l) (held-back x y k n l (rw o at h))))
+      let b = held-back x y k n m l (rw o at h) in
+      split (is-kind P z) (λ y. rw (behind-P-past P u z l q, y) (behind-is-there P l b)) (λ f. rw (behind-P-past P u z l q, f) b))
