@@ -103,7 +103,7 @@ Behind t u a a′ s N = only (is-either t u) (waiting s N) ≡ the-P t a ∷ the
 pub blocked : (t u : Transaction) (a a′ : Agent) → (t ≡ u → ⊥) → (s : Net) (N : Chan) → Accepted s (Post N u) → Behind t u a a′ s N → ⊥
 unfolding grounds named-grounds
 blocked t u a a′ differ s N ok h =
-    both (behind-P P u (waiting s N))
+    both (behind-P (is-named P u) (waiting s N))
     (held-back t u (the-P t a) (the-P u a′) refl not-its-name (is-named-so u (the-P u a′) P refl refl) (waiting s N) h)
     (clear (grounds s (Post N u)) ok .1 .1 .0)
   where

@@ -26,9 +26,10 @@ use Rattle.chassis.proofs.Passing.{passed}
 use Rattle.chassis.proofs.OnTheWay.{next, one-bridge-nearer}
 use Rattle.queue.specs.declared.Transaction.{Transaction}
 use Rattle.queue.specs.declared.Entry.{Entry}
-use Rattle.queue.specs.Entries.{P, R, C, is-kind, is-named, marked, as-kind, zero-entry, gone, marking}
+use Rattle.queue.specs.Entries.{P, R, C, is-kind, is-named, matches, marked, as-kind, zero-entry, gone, marking}
 use Rattle.queue.specs.Queues.{stands, oldest}
 use Rattle.queue.proofs.Plainly.{named-is-its-own}
+use Rattle.queue.proofs.Matching.{matching-kind}
 use Rattle.network.specs.declared.State.{State}
 use Rattle.network.specs.Nets.{Net, view, waiting, begun}
 use Rattle.network.specs.Edits.{Edit, add, change, edit, edits}
@@ -112,12 +113,12 @@ module _ (p : Entry → Bool) (N : Chan) where
   spares M f u h =
       modify-every (λ j l. count p l ≡ count p (getD (u .chans) j [])) (u .chans) (M .0) f [] (λ _. h) (λ j. refl) (N .0)
 
-  spares-taken : (T : Table) (N1 : NextPlace) (t : Transaction) (ds : List Edit) (u : Net) → ((x : Entry) → is-named C t x ≡ true → p x ≡ false)
-      → ((w : Net) → passing p N (edits ds w) ≡ passing p N w) → passing p N (edits (answer-taken T N1 t ++ ds) u) ≡ passing p N u
+  spares-taken : (T : Table) (N1 : NextPlace) (r : Entry) (ds : List Edit) (u : Net) → ((x : Entry) → matches C r x ≡ true → p x ≡ false)
+      → ((w : Net) → passing p N (edits ds w) ≡ passing p N w) → passing p N (edits (answer-taken T N1 r ++ ds) u) ≡ passing p N u
   unfolding edits edit
-  spares-taken T Target t ds u c h = h u
-  spares-taken T (Through X) t ds u c h =
-      h (edit (leaves C (opposite T X) t) u) ∙ spares (opposite T X) (alter (is-named C t) gone) u (none-fewer p (is-named C t) (waiting u (opposite T X)) c)
+  spares-taken T Target r ds u c h = h u
+  spares-taken T (Through X) r ds u c h =
+      h (edit (change (opposite T X) (matches C r) gone) u) ∙ spares (opposite T X) (alter (matches C r) gone) u (none-fewer p (matches C r) (waiting u (opposite T X)) c)
 
   spares-given : (master : Bool) (M : Chan) (x : Entry) (u : Net) → p x ≡ false → passing p N (edits (cond master [] (add M x ∷ [])) u) ≡ passing p N u
   unfolding edits edit
@@ -132,8 +133,8 @@ fewer p N s u h e = let k = ap (passing p N) e in omega arith
 more : (N : Chan) (s u : Net) → length (waiting u N) ≡ length (waiting s N) + 1 → u ≡ s → ⊥
 more N s u h e = let k = ap (λ (w : Net). length (waiting w N)) e in omega arith
 
-no-C-is-R : (t : Transaction) (x : Entry) → is-named C t x ≡ true → is-kind R x ≡ false
-no-C-is-R t x h = let e = named-is-its-own C t x h .0 in ne-eqb (x .kind) R (λ (k : x .kind ≡ R). omega arith)
+no-C-is-R : (r : Entry) (x : Entry) → matches C r x ≡ true → is-kind R x ≡ false
+no-C-is-R r x h = let e = matching-kind C r x h in ne-eqb (x .kind) R (λ (k : x .kind ≡ R). omega arith)
 
 through : (N1 : NextPlace) → is-target N1 ≡ false → (X : Chan) × (N1 ≡ Through X)
 through Target h = absurd (both true refl h)
@@ -178,7 +179,7 @@ module _ (s : Net) (g : Good s) where
         let r = clear (grounds s (Complete N t)) ok in
         let x = entry-at s R N t in
         fewer (is-kind R) N s (after s (Complete N t))
-        (ap suc (spares-taken (is-kind R) N (s .table) (ahead s R N t) t (answer-given (s .table) N x) (edit (leaves R N t) s) (no-C-is-R t)
+        (ap suc (spares-taken (is-kind R) N (s .table) (ahead s R N t) x (answer-given (s .table) N x) (edit (leaves R N t) s) (no-C-is-R x)
         (λ w. spares-given (is-kind R) N (is-master (s .table) N) (opposite (s .table) N) (as-kind C x) w refl))
         ∙ left s N t R (r .1 .0))
 

@@ -26,7 +26,7 @@ use Rattle.chassis.proofs.Passing.{passed}
 use Rattle.chassis.proofs.OnTheWay.{start-on-way}
 use Rattle.queue.specs.declared.Transaction.{Transaction}
 use Rattle.queue.specs.declared.Entry.{Entry}
-use Rattle.queue.specs.Entries.{P, R, C, is-kind, is-named, as-kind, zero-entry, gone, marking}
+use Rattle.queue.specs.Entries.{P, R, C, is-kind, is-named, matches, as-kind, zero-entry, gone, marking}
 use Rattle.queue.specs.Queues.{stands, oldest}
 use Rattle.queue.proofs.Plainly.{named-is-its-own}
 use Rattle.network.specs.Nets.{Net, waiting, begun}
@@ -179,14 +179,14 @@ module _ (s : Net) (g : Good s) where
 
     taken-keeps : (N1 : NextPlace) (x : Entry) → is-kind C x ≡ false → Fit (s .table) (s .begins) N x
         → (is-master (s .table) N ≡ false → HasRoom left C (x .transaction .master) (opposite (s .table) N))
-        → Good (edits (answer-taken (s .table) N1 t ++ answer-given (s .table) N x) left)
+        → Good (edits (answer-taken (s .table) N1 x ++ answer-given (s .table) N x) left)
     unfolding edits edit
     taken-keeps Target x c f r = answer-keeps left N x left-good c f r
     taken-keeps (Through X) x c f r =
         let Y = opposite (s .table) X in
-        let q = tame-gone (is-named C t) in
-        answer-keeps (edit (leaves C Y t) left) N x (good-change left Y (is-named C t) gone q left-good) c f
-        (λ m. room-stays left Y (is-named C t) gone q C (x .transaction .master) (opposite (s .table) N) (r m))
+        let q = tame-gone (matches C x) in
+        answer-keeps (edit (change Y (matches C x) gone) left) N x (good-change left Y (matches C x) gone q left-good) c f
+        (λ m. room-stays left Y (matches C x) gone q C (x .transaction .master) (opposite (s .table) N) (r m))
 
     complete-keeps : Accepted s (Complete N t) → Good (after s (Complete N t))
     unfolding grounds named-grounds after effects edits

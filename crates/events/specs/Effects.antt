@@ -10,7 +10,7 @@ use Rattle.chassis.specs.declared.NextPlace.the-variants.{Target, Through}
 use Rattle.chassis.specs.Channels.{is-master, master-channel, opposite}
 use Rattle.queue.specs.declared.Transaction.{Transaction}
 use Rattle.queue.specs.declared.Entry.{Entry}
-use Rattle.queue.specs.Entries.{P, R, C, is-named, as-kind, gone, marking}
+use Rattle.queue.specs.Entries.{P, R, C, is-named, matches, as-kind, gone, marking}
 use Rattle.network.specs.Nets.{Net, begun}
 use Rattle.network.specs.Edits.{Edit, add, change, raise, edits}
 use Rattle.events.specs.declared.Event.{Event}
@@ -47,10 +47,10 @@ abbrev pub enters : NextPlace → Entry → List Edit
 enters Target x = []
 enters (Through X) x = add X x ∷ []
 
--- the matching C is taken out of the opposite of N1
-abbrev pub answer-taken : Table → NextPlace → Transaction → List Edit
-answer-taken T Target t = []
-answer-taken T (Through X) t = leaves C (opposite T X) t ∷ []
+-- the C that matches r is taken out of the opposite of N1
+abbrev pub answer-taken : Table → NextPlace → Entry → List Edit
+answer-taken T Target r = []
+answer-taken T (Through X) r = change (opposite T X) (matches C r) gone ∷ []
 
 -- if N is a bridge channel a C enters the opposite of N, else the transaction ends
 abbrev pub answer-given : Table → Chan → Entry → List Edit
@@ -65,7 +65,7 @@ effects s (Post N t) = leaves P N t ∷ enters (ahead s P N t) (entry-at s P N t
 effects s (Latch N t) = is-marked N t ∷ enters (ahead s R N t) (as-kind R (entry-at s R N t))
 effects s (Complete N t) =
     leaves R N t
-    ∷ (answer-taken (s .table) (ahead s R N t) t
+    ∷ (answer-taken (s .table) (ahead s R N t) (entry-at s R N t)
     ++ answer-given (s .table) N (entry-at s R N t))
 effects s (DropRequest N t) = leaves R N t ∷ []
 effects s (DropCompletion N t) = leaves C N t ∷ []

@@ -15,7 +15,7 @@ use Rattle.queue.specs.Entries.{P, R, C}
 use Rattle.network.specs.Nets.{Net, begun, full}
 use Rattle.events.specs.declared.Event.{Event}
 use Rattle.events.specs.declared.Event.the-variants.{BeginPosted, BeginRead, BeginWrite, Commit, Post, Latch, Complete, DropRequest, DropCompletion}
-use Rattle.events.specs.Tests.{ahead, is-target, full-ahead, answer-full, no-such-entry, is-committed, behind-a-P, latched-already, unanswered, is-oldest-C, read-answer-behind-P}
+use Rattle.events.specs.Tests.{entry-at, ahead, is-target, full-ahead, answer-full, no-such-entry, is-committed, behind-a-P, latched-already, unanswered, is-oldest-C, read-answer-behind-P}
 
 -- begins: 1, 2, 3, 4, 5
 unfoldable pub begin-grounds : Net → ℕ → Agent → Agent → List Ground
@@ -54,15 +54,15 @@ grounds s (Latch N t) =
     named-grounds s R N t
     (11 when is-target (ahead s R N t)
     ∷ 9 when behind-a-P s R N t
-    ∷ 10 when latched-already s t (ahead s R N t)
+    ∷ 10 when latched-already s (entry-at s R N t) (ahead s R N t)
     ∷ 5 when full-ahead s R (t .master) (ahead s R N t)
     ∷ [])
 -- complete 9, 12, 14, 5
 grounds s (Complete N t) =
     named-grounds s R N t
     (9 when behind-a-P s R N t
-    ∷ 12 when unanswered s t (ahead s R N t)
-    ∷ 14 when read-answer-behind-P s t (ahead s R N t)
+    ∷ 12 when unanswered s (entry-at s R N t) (ahead s R N t)
+    ∷ 14 when read-answer-behind-P s (entry-at s R N t) (ahead s R N t)
     ∷ 5 when answer-full s (t .master) N
     ∷ [])
 -- drop request 7, 8

@@ -1,6 +1,7 @@
--- What the grounds test, each under a name of its own. N is the named channel, t the named transaction, N1 the next place.
+-- What the grounds test, each under a name of its own. N is the named channel, t the named transaction, r the request so named, N1 the next place.
 use Prim.Native.Nat.{ℕ}
 use mathlib.Core.Bool.{Bool, true, false, not, _&&_, _||_}
+use mathlib.Core.List.{List}
 use Rattle.chassis.specs.declared.Agent.{Agent}
 use Rattle.chassis.specs.declared.Chan.{Chan}
 use Rattle.chassis.specs.declared.NextPlace.{NextPlace}
@@ -9,8 +10,8 @@ use Rattle.chassis.specs.Channels.{is-master, opposite}
 use Rattle.chassis.specs.Routes.{next-place}
 use Rattle.queue.specs.declared.Transaction.{Transaction}
 use Rattle.queue.specs.declared.Entry.{Entry}
-use Rattle.queue.specs.Entries.{R, C}
-use Rattle.queue.specs.Queues.{stands, the, behind-P, first-C}
+use Rattle.queue.specs.Entries.{R, C, is-named, matches}
+use Rattle.queue.specs.Queues.{stands, the, has-matching, the-matching, behind-P, first-C}
 use Rattle.network.specs.Nets.{Net, waiting, full}
 
 -- the named entry of kind k in N
@@ -49,25 +50,28 @@ is-committed s N t = (entry-at s R N t) .committed
 
 -- 9
 abbrev pub behind-a-P : Net → ℕ → Chan → Transaction → Bool
-behind-a-P s k N t = behind-P k t (waiting s N)
+behind-a-P s k N t = behind-P (is-named k t) (waiting s N)
 
--- the opposite of X holds the transaction's C: the matching C, found by originating master and number
-abbrev pub answered : Net → Transaction → Chan → Bool
-answered s t X = stands C t (waiting s (opposite (s .table) X))
+-- the opposite of X holds the C that matches r
+abbrev pub answered : Net → Entry → Chan → Bool
+answered s r X = has-matching C r (waiting s (opposite (s .table) X))
 
 -- 10: N1 holds this transaction's R, or its opposite holds its C
-abbrev pub latched-already : Net → Transaction → NextPlace → Bool
-latched-already s t N1 = is-channel-with (λ X. stands R t (waiting s X) || answered s t X) N1
+abbrev pub latched-already : Net → Entry → NextPlace → Bool
+latched-already s r N1 = is-channel-with (λ X. has-matching R r (waiting s X) || answered s r X) N1
 
 -- 12: N1 is a bridge channel and its opposite has no matching C
-abbrev pub unanswered : Net → Transaction → NextPlace → Bool
-unanswered s t N1 = is-channel-with (λ X. not (answered s t X)) N1
+abbrev pub unanswered : Net → Entry → NextPlace → Bool
+unanswered s r N1 = is-channel-with (λ X. not (answered s r X)) N1
 
 -- 13
 abbrev pub is-oldest-C : Net → Chan → Transaction → Bool
 is-oldest-C s N t = first-C t (waiting s N)
 
--- 14: the matching C is a read's and has an older P before it; a write's C may pass P
-abbrev pub read-answer-behind-P : Net → Transaction → NextPlace → Bool
-read-answer-behind-P s t N1 =
-    is-channel-with (λ X. not ((entry-at s C (opposite (s .table) X) t) .write) && behind-a-P s C (opposite (s .table) X) t) N1
+-- the C that matches r is a read's and has an older P before it; a write's C may pass P
+abbrev pub read-answer-waits : Entry → List Entry → Bool
+read-answer-waits r l = not ((the-matching C r l) .write) && behind-P (matches C r) l
+
+-- 14: so it is in the opposite of N1
+abbrev pub read-answer-behind-P : Net → Entry → NextPlace → Bool
+read-answer-behind-P s r N1 = is-channel-with (λ X. read-answer-waits r (waiting s (opposite (s .table) X))) N1

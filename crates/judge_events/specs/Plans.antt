@@ -11,10 +11,9 @@ use Rattle.chassis.specs.declared.NextPlace.{NextPlace}
 use Rattle.chassis.specs.declared.NextPlace.the-variants.{Target, Through}
 use Rattle.chassis.specs.Numbers.{chan}
 use Rattle.chassis.specs.Channels.{is-master, master-channel, opposite}
-use Rattle.queue.specs.declared.Transaction.{Transaction}
 use Rattle.queue.specs.declared.Entry.{Entry}
 use Rattle.queue.specs.declared.Change.{Change}
-use Rattle.queue.specs.declared.Change.the-variants.{Nothing, Add, TakeOut, Mark}
+use Rattle.queue.specs.declared.Change.the-variants.{Nothing, Add, TakeOut, TakeMatching, Mark}
 use Rattle.queue.specs.Entries.{P, R, C, as-kind}
 use Rattle.network.specs.declared.State.{State}
 use Rattle.network.specs.declared.Act.{Act}
@@ -56,10 +55,10 @@ abbrev pub entering : NextPlace → Entry → Act
 entering Target x = no-act
 entering (Through X) x = at-channel X (Add x)
 
--- the matching C is taken out of the opposite of N1
-abbrev pub answer-leaving : Net → NextPlace → Transaction → Act
-answer-leaving s Target t = no-act
-answer-leaving s (Through X) t = at-channel (opposite (s .table) X) (TakeOut (entry-at s C (opposite (s .table) X) t))
+-- the C that matches r is taken out of the opposite of N1
+abbrev pub answer-leaving : Table → NextPlace → Entry → Act
+answer-leaving T Target r = no-act
+answer-leaving T (Through X) r = at-channel (opposite T X) (TakeMatching r)
 
 -- in a bridge channel a C enters the opposite of N
 abbrev pub answer-entering : Table → Chan → Entry → Act
@@ -77,7 +76,7 @@ accepted-plan s (Latch N t) =
 accepted-plan s (Complete N t) =
     does
     (at-channel N (TakeOut (entry-at s R N t)))
-    (answer-leaving s (ahead s R N t) t)
+    (answer-leaving (s .table) (ahead s R N t) (entry-at s R N t))
     (answer-entering (s .table) N (entry-at s R N t))
 accepted-plan s (DropRequest N t) = does (at-channel N (TakeOut (entry-at s R N t))) no-act no-act
 accepted-plan s (DropCompletion N t) = does (at-channel N (TakeOut (entry-at s C N t))) no-act no-act

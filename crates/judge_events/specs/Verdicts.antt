@@ -9,7 +9,7 @@ use Rattle.chassis.specs.declared.NextPlace.{NextPlace}
 use Rattle.chassis.specs.declared.NextPlace.the-variants.{Target, Through}
 use Rattle.chassis.specs.Channels.{is-master, master-channel, opposite}
 use Rattle.queue.specs.declared.Look.{Look}
-use Rattle.queue.specs.declared.Change.the-variants.{Add, TakeOut, Mark}
+use Rattle.queue.specs.declared.Change.the-variants.{Add, TakeOut, TakeMatching, Mark}
 use Rattle.queue.specs.Entries.{P, R, C, as-kind}
 use Rattle.network.specs.declared.Act.{Act}
 use Rattle.events.specs.declared.Event.{Event}
@@ -82,7 +82,7 @@ abbrev pub complete-verdict-on : Table → Chan → Look → Chan → Act → Si
 complete-verdict-on T N l X given g =
     cond (g .answer .found)
     (cond (not (g .answer .entry .write) && g .answer .behind) (refused-plan 14)
-    (answer-verdict N l (at-channel (opposite T X) (TakeOut (g .answer .entry))) given (g .full)))
+    (answer-verdict N l (at-channel (opposite T X) (TakeMatching (l .entry))) given (g .full)))
     (refused-plan 12)
 
 abbrev pub complete-verdict-to : Table → Chan → Look → NextPlace → Sight → Plan

@@ -58,7 +58,7 @@ fn done(first: Act, second: Act, third: Act) -> Plan
     }
 }
 
-// The named entry gets its mark, or leaves.
+// The named entry gets its mark, or leaves; or the C that matches it leaves.
 fn marks(n: Chan, x: Entry) -> Act
     ensures { λ r. ⌜ r ≡ at-channel n (Change.Mark x) ⌝ }
 {
@@ -74,6 +74,15 @@ fn takes_out(n: Chan, x: Entry) -> Act
     Act {
         at: n,
         change: Change::TakeOut(x),
+    }
+}
+
+fn takes_matching(n: Chan, request: Entry) -> Act
+    ensures { λ r. ⌜ r ≡ at-channel n (Change.TakeMatching request) ⌝ }
+{
+    Act {
+        at: n,
+        change: Change::TakeMatching(request),
     }
 }
 
@@ -232,14 +241,13 @@ fn judge_complete_on(t: Table, n: Chan, l: Look, ahead: Chan, given: Act, g: Sig
     ensures { λ r. ⌜ r ≡ complete-verdict-on t n l ahead given g ⌝ }
 {
     let answer = g.answer;
-    let x = answer.entry;
     if !answer.found {
         return refused_plan(12);
     }
     if waits_for_p(answer) {
         return refused_plan(14);
     }
-    let taken = takes_out(opposite(t, ahead), x);
+    let taken = takes_matching(opposite(t, ahead), l.entry);
     judge_answer(n, l, taken, given, g.full)
 }
 

@@ -15,7 +15,6 @@ use Rattle.base.specs.Lists.{find, alter, modify, or-else}
 use Rattle.base.specs.Grounds.{Ground, refusal}
 use Rattle.base.proofs.Logic.{split, and-true}
 use Rattle.base.proofs.Grounds.{Clear, clear}
-use Rattle.base.proofs.Lists.{found-passes, is-there}
 use Rattle.base.proofs.Cells.{modify-every, modify-here}
 use Rattle.chassis.specs.declared.Agent.{Agent}
 use Rattle.chassis.specs.declared.Chan.{Chan}
@@ -29,10 +28,10 @@ use Rattle.queue.specs.declared.Entry.{Entry}
 use Rattle.queue.specs.declared.Change.{Change}
 use Rattle.queue.specs.declared.Change.the-variants.{Nothing, Add, TakeOut, Mark}
 use Rattle.queue.specs.Entries.{P, R, C, is-named, as-kind, gone, marking}
-use Rattle.queue.specs.Queues.{oldest, stands, the}
+use Rattle.queue.specs.Queues.{stands}
 use Rattle.queue.specs.code.Changes.{changes}
-use Rattle.queue.proofs.Plainly.{named-is-its-own}
-use Rattle.queue.proofs.Lengths.{changes-length, nothing-length, take-out-length, mark-length}
+use Rattle.queue.proofs.Matching.{found-by-its-name}
+use Rattle.queue.proofs.Lengths.{changes-length, nothing-length, take-out-length, take-matching-length, mark-length}
 use Rattle.network.specs.declared.State.{State}
 use Rattle.network.specs.declared.Act.{Act}
 use Rattle.network.specs.Nets.{Net, pack, waiting}
@@ -46,7 +45,7 @@ use Rattle.events.specs.declared.Event.the-variants.{BeginPosted, BeginRead, Be
 use Rattle.events.specs.declared.Decoded.the-variants.{Known}
 use Rattle.read_events.specs.declared.Frame.{Frame}
 use Rattle.judge_events.specs.declared.Plan.{Plan}
-use Rattle.events.specs.Tests.{entry-at, ahead, answered, unanswered}
+use Rattle.events.specs.Tests.{entry-at, ahead}
 use Rattle.events.specs.Effects.{leaves, is-marked, enters, answer-taken, answer-given, begins, new-entry, effects, after}
 use Rattle.events.specs.Grounds.{begin-grounds, named-grounds, grounds, Accepted}
 use Rattle.events.specs.Accounts.{account}
@@ -54,15 +53,8 @@ use Rattle.read_events.specs.Frames.{begin-frame, named-frame, frame}
 use Rattle.judge_events.specs.Plans.{at-channel, no-act, does, refused-plan, begin-plan, entering, answer-leaving, answer-entering, accepted-plan, carried-out}
 use Rattle.events.proofs.Kept.{rules-stay}
 
--- ---- what is named is found under its own name
+-- ---- the entry that a change names is found under its own name
 
-named-entry : (k : ℕ) (t : Transaction) (l : List Entry) → stands k t l ≡ true → ((the k t l) .kind ≡ k) × ((the k t l) .transaction ≡ t)
-named-entry k t l h =
-    let r = is-there (oldest k t l) h in
-    let n = named-is-its-own k t (r .0) (found-passes (is-named k t) l (r .1)) in
-    rw (r .1) n
-
--- the entry that a change names
 module _ (N : Chan) (x : Entry) (n : Net) {k : ℕ} {t : Transaction} (p : x .kind ≡ k) (q : x .transaction ≡ t) where
   take-named : act (at-channel N (TakeOut x)) n ≡ edit (change N (is-named k t) gone) n
   unfolding act changes edit
@@ -74,10 +66,10 @@ module _ (N : Chan) (x : Entry) (n : Net) {k : ℕ} {t : Transaction} (p : x .ki
 
 module _ (s : Net) (k : ℕ) (N : Chan) (t : Transaction) (h : stands k t (waiting s N) ≡ true) (n : Net) where
   taken-out : act (at-channel N (TakeOut (entry-at s k N t))) n ≡ edit (leaves k N t) n
-  taken-out = let e = named-entry k t (waiting s N) h in take-named N (entry-at s k N t) n (e .0) (e .1)
+  taken-out = let e = found-by-its-name k t (waiting s N) h in take-named N (entry-at s k N t) n (e .0) (e .1)
 
   got-its-mark : act (at-channel N (Mark (entry-at s k N t))) n ≡ edit (change N (is-named k t) marking) n
-  got-its-mark = let e = named-entry k t (waiting s N) h in mark-named N (entry-at s k N t) n (e .0) (e .1)
+  got-its-mark = let e = found-by-its-name k t (waiting s N) h in mark-named N (entry-at s k N t) n (e .0) (e .1)
 
 modify-none : {A : Type 0} (l : List A) (i : ℕ) (f : A → A) → ((x : A) → f x ≡ x) → modify l i f ≡ l
 unfolding modify
@@ -190,18 +182,18 @@ unfolding edits
 entered Target x n = nothing-done n
 entered (Through X) x n = added X x n
 
-answered-out : (s : Net) (N1 : NextPlace) (t : Transaction) → unanswered s t N1 ≡ false → (n : Net) → act (answer-leaving s N1 t) n ≡ edits (answer-taken (s .table) N1 t) n
-unfolding edits
-answered-out s Target t h n = nothing-done n
-answered-out s (Through X) t h n = taken-out s C (opposite (s .table) X) t (not-false (answered s t X) h) n
+answered-out : (T : Table) (N1 : NextPlace) (r : Entry) (n : Net) → act (answer-leaving T N1 r) n ≡ edits (answer-taken T N1 r) n
+unfolding act changes edits edit
+answered-out T Target r n = nothing-done n
+answered-out T (Through X) r n = refl
 
 given : (T : Table) (N : Chan) (x : Entry) (n : Net) → act (answer-entering T N x) n ≡ edits (answer-given T N x) n
 unfolding edits
 given T N x n = split (is-master T N) (λ h. rw h (nothing-done n)) (λ h. rw h (added (opposite T N) (as-kind C x) n))
 
-leaving-shrinks : (s : Net) (N1 : NextPlace) (t : Transaction) → Shrinks (answer-leaving s N1 t)
-leaving-shrinks s Target t l = nothing-length l
-leaving-shrinks s (Through X) t l = take-out-length (entry-at s C (opposite (s .table) X) t) l
+leaving-shrinks : (T : Table) (N1 : NextPlace) (r : Entry) → Shrinks (answer-leaving T N1 r)
+leaving-shrinks T Target r l = nothing-length l
+leaving-shrinks T (Through X) r l = take-matching-length r l
 
 -- ---- an accepted event
 
@@ -306,19 +298,18 @@ module _ (s u : Net) (small : Small u) where
 
     -- complete
     done-complete : Accepted s (Complete N t) → Small (then (Complete N t)) → Done (Complete N t) (t .master) (accepted-plan s (Complete N t))
-    unfolding accepted-plan effects edits grounds named-grounds
+    unfolding accepted-plan effects edits grounds
     done-complete ok end =
-        let c = clear (grounds s (Complete N t)) ok in
-        let h = not-false (stands R t (waiting s N)) (c .1 .0) in
+        let h = there R _ (clear (grounds s (Complete N t)) ok) in
         let x = entry-at s R N t in
         let n = edit (leaves R N t) u in
         let N1 = ahead s R N t in
         done-three (Complete N t) (t .master) end (accepted-plan s (Complete N t)) refl
-        (ap (λ (y : Net). act (answer-entering (s .table) N x) (act (answer-leaving s N1 t) y)) (taken-out s R N t h u)
-        ∙ ap (act (answer-entering (s .table) N x)) (answered-out s N1 t (c .1 .1 .1 .0) n)
-        ∙ given (s .table) N x (edits (answer-taken (s .table) N1 t) n)
-        ∙ sym (edits-append (answer-taken (s .table) N1 t) (answer-given (s .table) N x) n))
-        (take-out-length x) (leaving-shrinks s N1 t)
+        (ap (λ (y : Net). act (answer-entering (s .table) N x) (act (answer-leaving (s .table) N1 x) y)) (taken-out s R N t h u)
+        ∙ ap (act (answer-entering (s .table) N x)) (answered-out (s .table) N1 x n)
+        ∙ given (s .table) N x (edits (answer-taken (s .table) N1 x) n)
+        ∙ sym (edits-append (answer-taken (s .table) N1 x) (answer-given (s .table) N x) n))
+        (take-out-length x) (leaving-shrinks (s .table) N1 x)
 
     done-drop-request : Accepted s (DropRequest N t) → Small (then (DropRequest N t)) → Done (DropRequest N t) (t .master) (accepted-plan s (DropRequest N t))
     unfolding accepted-plan effects grounds

@@ -22,8 +22,8 @@ use Rattle.queue.specs.declared.Entry.{Entry}
 use Rattle.queue.specs.declared.Channel.{Channel}
 use Rattle.queue.specs.declared.Look.{Look}
 use Rattle.queue.specs.Entries.{P, R, C}
-use Rattle.queue.specs.Queues.{stands}
-use Rattle.queue.specs.code.Changes.{look-of}
+use Rattle.queue.specs.Queues.{has-matching}
+use Rattle.queue.specs.code.Changes.{look-of, match-of}
 use Rattle.queue.specs.Packing.{live}
 use Rattle.network.specs.declared.State.{State}
 use Rattle.network.specs.Nets.{Net, view, waiting, begun, full}
@@ -36,7 +36,7 @@ use Rattle.events.specs.declared.Decoded.the-variants.{Known, Unfit}
 use Rattle.read_events.specs.declared.Frame.{Frame}
 use Rattle.read_events.specs.declared.Sight.{Sight}
 use Rattle.judge_events.specs.declared.Plan.{Plan}
-use Rattle.events.specs.Tests.{full-ahead, answer-full, is-channel-with}
+use Rattle.events.specs.Tests.{entry-at, full-ahead, answer-full, is-channel-with}
 use Rattle.events.specs.Accounts.{account}
 use Rattle.read_events.specs.Frames.{frame, refused-frame, begin-frame, named-frame, look-at, next-of, look-back, sight, ahead-or, answer-or, back-or}
 use Rattle.judge_events.specs.Plans.{record-plan}
@@ -58,30 +58,30 @@ module _ (n : Net) (N : Chan) where
   told-full k m Target = refl
   told-full k m (Through X) = refl
 
-  told-waits : (t : Transaction) (next : NextPlace) → if-channel next (stands R t (waiting n (ahead-or N next))) ≡ is-channel-with (λ X. stands R t (waiting n X)) next
-  told-waits t Target = refl
-  told-waits t (Through X) = refl
+  told-waits : (r : Entry) (next : NextPlace) → if-channel next (has-matching R r (waiting n (ahead-or N next))) ≡ is-channel-with (λ X. has-matching R r (waiting n X)) next
+  told-waits r Target = refl
+  told-waits r (Through X) = refl
 
-  told-back : (t : Transaction) (next : NextPlace) → look-if next (look-of C t (waiting n (answer-or (n .table) N next))) ≡ look-back n t next
-  told-back t Target = refl
-  told-back t (Through X) = refl
+  told-back : (r : Entry) (next : NextPlace) → look-if next (match-of C r (waiting n (answer-or (n .table) N next))) ≡ look-back n r next
+  told-back r Target = refl
+  told-back r (Through X) = refl
 
   told-answer-full : (m : Agent) → full-back (n .table) N (waiting n (back-or (n .table) N)) ≡ answer-full n m N
   unfolding back-or room-for
   told-answer-full m = split (is-master (n .table) N) (λ h. rw h) (λ h. rw h)
 
 module _ (n : Net) where
-  -- all four lists, at an event's own channel
+  -- the entry that it names and all four lists, at an event's own channel
   abbrev told-sight : Event → NextPlace → Sight
   told-sight e next =
       let N = account e .channel in
-      sight-told (n .table) next (waiting n N) (waiting n (ahead-or N next)) (waiting n (answer-or (n .table) N next)) (waiting n (back-or (n .table) N)) e
+      sight-told (n .table) next (look-at n e .entry) (waiting n N) (waiting n (ahead-or N next)) (waiting n (answer-or (n .table) N next)) (waiting n (back-or (n .table) N)) e
 
   sight-path : {f g w x : Bool} {a b : Look} {o : Bool} → f ≡ g → w ≡ x → a ≡ b → _≡_ {A = Sight} (record { full = f; waits = w; answer = a; oldest = o }) (record { full = g; waits = x; answer = b; oldest = o })
   sight-path {o = o} p q r = λ i. record { full = p i; waits = q i; answer = r i; oldest = o }
 
   pub sight-shown : (e : Event) → told-sight e (next-of n e) ≡ sight n e
-  unfolding sight room-for
+  unfolding sight look-at look-of room-for
   sight-shown (BeginPosted m a) = refl
   sight-shown (BeginRead m a) = refl
   sight-shown (BeginWrite m a) = refl
@@ -89,8 +89,8 @@ module _ (n : Net) where
   sight-shown (Post N t) = sight-path (told-full n N P (t .master) (next-of n (Post N t))) refl refl
   sight-shown (Latch N t) =
       let next = next-of n (Latch N t) in
-      sight-path (told-full n N R (t .master) next) (told-waits n N t next) (told-back n N t next)
-  sight-shown (Complete N t) = sight-path (told-answer-full n N (t .master)) refl (told-back n N t (next-of n (Complete N t)))
+      sight-path (told-full n N R (t .master) next) (told-waits n N (entry-at n R N t) next) (told-back n N (entry-at n R N t) next)
+  sight-shown (Complete N t) = sight-path (told-answer-full n N (t .master)) refl (told-back n N (entry-at n R N t) (next-of n (Complete N t)))
   sight-shown (DropRequest N t) = refl
   sight-shown (DropCompletion N t) = refl
 
@@ -184,12 +184,12 @@ module _ (s : State) (ok : table-passes (s .table) ≡ true) (d : Decoded) (f : 
       unfolding view
       next-right = isn ∙ ap (λ (N : Chan). next-told T e N l) (points .at) ∙ ap (next-told T e (account e .channel)) look-right ∙ next-shown n e
 
-      module _ (g : Sight) (isg : g ≡ sight-told T next (live (channel-at s (f .at))) (live (channel-at s (ahead-or (f .at) next))) (live (channel-at s (answer-or T (f .at) next))) (live (channel-at s (back-or T (f .at)))) e) where
+      module _ (g : Sight) (isg : g ≡ sight-told T next (l .entry) (live (channel-at s (f .at))) (live (channel-at s (ahead-or (f .at) next))) (live (channel-at s (answer-or T (f .at) next))) (live (channel-at s (back-or T (f .at)))) e) where
         sight-right : g ≡ sight n e
         unfolding view
         sight-right =
             isg
-            ∙ rw (shows s (f .at), shows s (ahead-or (f .at) next), shows s (answer-or T (f .at) next), shows s (back-or T (f .at)), points .at, next-right)
+            ∙ rw (shows s (f .at), shows s (ahead-or (f .at) next), shows s (answer-or T (f .at) next), shows s (back-or T (f .at)), points .at, next-right, look-right)
             (sight-shown n e)
 
         pub plan-right : (p : Plan) → p ≡ frame-verdict T f (getD (s .begins) (f .master .0) 0) l next g → p ≡ record-plan n d

@@ -70,9 +70,9 @@ module _ (s : Net) (ok : table-passes (s .table) ≡ true) where
   entering-there Target x o = zero-there
   entering-there (Through X) x o = o .0
 
-  leaving-there : (n : NextPlace) (t : Transaction) → Onward T ok n → has-chan T (answer-leaving s n t .at) ≡ true
-  leaving-there Target t o = zero-there
-  leaving-there (Through X) t o = opposing T X (o .0) (o .1) .there
+  leaving-there : (n : NextPlace) (r : Entry) → Onward T ok n → has-chan T (answer-leaving T n r .at) ≡ true
+  leaving-there Target r o = zero-there
+  leaving-there (Through X) r o = opposing T X (o .0) (o .1) .there
 
   given-there : (N : Chan) (x : Entry) → has-chan T N ≡ true → has-chan T (answer-entering T N x .at) ≡ true
   given-there N x h = split (is-master T N) (λ m. rw m zero-there) (λ m. rw m (opposing T N h m .there))
@@ -91,7 +91,7 @@ module _ (s : Net) (ok : table-passes (s .table) ≡ true) where
       record { first = h; second = entering-there (ahead s R N t) (as-kind R (entry-at s R N t)) (next-onward T ok N (entry-at s R N t .target) h); third = zero-there }
   accepted-there (Complete N t) c =
       let h = named-there R N t _ c in
-      record { first = h; second = leaving-there (ahead s R N t) t (next-onward T ok N (entry-at s R N t .target) h); third = given-there N (entry-at s R N t) h }
+      record { first = h; second = leaving-there (ahead s R N t) (entry-at s R N t) (next-onward T ok N (entry-at s R N t .target) h); third = given-there N (entry-at s R N t) h }
   accepted-there (DropRequest N t) c = record { first = named-there R N t _ c; second = zero-there; third = zero-there }
   accepted-there (DropCompletion N t) c = record { first = named-there C N t _ c; second = zero-there; third = zero-there }
 

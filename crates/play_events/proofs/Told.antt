@@ -22,7 +22,7 @@ use Rattle.queue.specs.declared.Look.{Look}
 use Rattle.queue.specs.declared.Change.the-variants.{TakeOut}
 use Rattle.queue.specs.Entries.{P, R, C, as-kind}
 use Rattle.queue.specs.Queues.{stands, the, behind-P, first-C}
-use Rattle.queue.specs.code.Changes.{look-of}
+use Rattle.queue.specs.code.Changes.{look-of, match-of}
 use Rattle.network.specs.Nets.{Net, waiting, begun, full}
 use Rattle.events.specs.declared.Event.{Event}
 use Rattle.events.specs.declared.Event.the-variants.{BeginPosted, BeginRead, BeginWrite, Commit, Post, Latch, Complete, DropRequest, DropCompletion}
@@ -108,7 +108,7 @@ module _ (s : Net) where
         (λ f. post-gone N (look-at s (Post N t)) (next-of s (Post N t)) (full-ahead s P (t .master) (next-of s (Post N t))) f ∙ simp (decided, h .0, h .1, f))
 
     told-latch : told (Latch N t) ≡ plan s (Latch N t)
-    unfolding verdict plan grounds named-grounds accepted-plan look-at look-of sight
+    unfolding verdict plan grounds named-grounds accepted-plan look-at look-of match-of sight
     told-latch =
         split (stands R t (waiting s N))
         (λ f.
@@ -118,7 +118,7 @@ module _ (s : Net) where
         (λ f. latch-gone N (look-at s (Latch N t)) (next-of s (Latch N t)) (sight s (Latch N t)) f ∙ simp (decided, h .0, h .1, f))
 
     told-complete : told (Complete N t) ≡ plan s (Complete N t)
-    unfolding verdict plan grounds named-grounds accepted-plan look-at look-of sight
+    unfolding verdict plan grounds named-grounds accepted-plan look-at look-of match-of sight
     told-complete =
         split (stands R t (waiting s N))
         (λ f.

@@ -39,4 +39,4 @@ notice T f here = beside T f (look-told f here) (next-told T (f .event) (f .at) 
 
 unfoldable pub told-plan : Table → Frame → ℕ → Notice → List Entry → List Entry → List Entry → List Entry → Plan
 told-plan T f count n here ahead answer back =
-    frame-verdict T f count (n .look) (n .next) (sight-told T (n .next) here ahead answer back (f .event))
+    frame-verdict T f count (n .look) (n .next) (sight-told T (n .next) (n .look .entry) here ahead answer back (f .event))

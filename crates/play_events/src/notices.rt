@@ -81,6 +81,6 @@ pub fn told(
     let e = f.event;
     let next = n.next;
     let l = n.look;
-    let g = sight_of(t, e, next, here, ahead, answer, back);
+    let g = sight_of(t, e, next, l.entry, here, ahead, answer, back);
     judge(t, f, count, l, next, g)
 }

@@ -8,8 +8,8 @@ use lib.ListN.{length, length-append}
 use Rattle.base.proofs.Queues.{length-alter}
 use Rattle.queue.specs.declared.Entry.{Entry}
 use Rattle.queue.specs.declared.Change.{Change}
-use Rattle.queue.specs.declared.Change.the-variants.{Nothing, Add, TakeOut, Mark}
-use Rattle.queue.specs.Entries.{is-named, gone, marking}
+use Rattle.queue.specs.declared.Change.the-variants.{Nothing, Add, TakeOut, TakeMatching, Mark}
+use Rattle.queue.specs.Entries.{C, is-named, matches, gone, marking}
 use Rattle.queue.specs.code.Changes.{changes}
 
 pub nothing-length : (l : List Entry) → length (changes Nothing l) ≤ length l
@@ -19,6 +19,10 @@ nothing-length l = omega arith
 pub take-out-length : (x : Entry) (l : List Entry) → length (changes (TakeOut x) l) ≤ length l
 unfolding changes
 take-out-length x l = length-alter (is-named (x .kind) (x .transaction)) gone (λ y. omega arith) l
+
+pub take-matching-length : (r : Entry) (l : List Entry) → length (changes (TakeMatching r) l) ≤ length l
+unfolding changes
+take-matching-length r l = length-alter (matches C r) gone (λ y. omega arith) l
 
 pub mark-length : (x : Entry) (l : List Entry) → length (changes (Mark x) l) ≤ length l
 unfolding changes
@@ -32,4 +36,5 @@ pub changes-length : (ch : Change) (l : List Entry) → length (changes ch l) �
 changes-length Nothing l = omega (arith, nothing-length l)
 changes-length (Add x) l = omega (arith, add-length x l)
 changes-length (TakeOut x) l = omega (arith, take-out-length x l)
+changes-length (TakeMatching r) l = omega (arith, take-matching-length r l)
 changes-length (Mark x) l = omega (arith, mark-length x l)

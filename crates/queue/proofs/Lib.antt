@@ -1,6 +1,7 @@
 -- Laws of one channel.
 pub mod Plainly
 pub mod Names
+pub mod Matching
 pub mod Turns
 pub mod Placed
 pub mod Packed

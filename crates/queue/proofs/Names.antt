@@ -55,7 +55,7 @@ module _ (t u : Transaction) where
   of-second x h = true-or (is-of t x) (is-of u x) h
 
   -- who is behind a P is there
-  behind-is-there : (k : ℕ) (l : List Entry) → behind-P k u l ≡ true → stands k u l ≡ true
+  behind-is-there : (k : ℕ) (l : List Entry) → behind-P (is-named k u) l ≡ true → stands k u l ≡ true
   unfolding behind-P
   behind-is-there k l h = and-true (stands k u l) _ h .0
 
@@ -65,7 +65,7 @@ module _ (t u : Transaction) where
       rw (← find-only is-either (is-named k u) (λ x n. of-second x (named-of u x k n)) l, h, m)
 
   -- the P of t stands before that of u: ground 9 for u
-  pub held-back : (x y : Entry) → is-kind P x ≡ true → is-named P u x ≡ false → is-named P u y ≡ true → (l : List Entry) → only is-either l ≡ x ∷ y ∷ [] → behind-P P u l ≡ true
+  pub held-back : (x y : Entry) → is-kind P x ≡ true → is-named P u x ≡ false → is-named P u y ≡ true → (l : List Entry) → only is-either l ≡ x ∷ y ∷ [] → behind-P (is-named P u) l ≡ true
   unfolding only
   held-back x y k n m [] h = absurd (cons-nil (sym h))
   held-back x y k n m (z ∷ l) h =
@@ -73,8 +73,8 @@ module _ (t u : Transaction) where
       (λ o.
       let e : z ≡ x = cc (rw o at h) in
       let r : only is-either l ≡ y ∷ [] = cc (rw o at h) in
-      rw (e, behind-P-past P u x l n, k) (last-stands P y m l r))
+      rw (e, behind-P-past (is-named P u) x l n, k) (last-stands P y m l r))
       (λ o.
       let q = split (is-named P u z) (λ y. absurd (both (is-of u z) (named-of u z P y) (or-false (is-of t z) (is-of u z) o .1))) (λ q. q) in
       let b = held-back x y k n m l (rw o at h) in
-      split (is-kind P z) (λ y. rw (behind-P-past P u z l q, y) (behind-is-there P l b)) (λ f. rw (behind-P-past P u z l q, f) b))
+      split (is-kind P z) (λ y. rw (behind-P-past (is-named P u) z l q, y) (behind-is-there P l b)) (λ f. rw (behind-P-past (is-named P u) z l q, f) b))

@@ -12,17 +12,16 @@ use Rattle.base.specs.Lists.{all, alter}
 use Rattle.base.proofs.Logic.{and-true}
 use Rattle.base.proofs.Padded.{without, length-without, gap-pad, add-pad, set-pad, all-filled, filled-all}
 use Rattle.chassis.specs.Numbers.{agent}
-use Rattle.queue.specs.declared.Transaction.{Transaction}
 use Rattle.queue.specs.declared.Entry.{Entry}
 use Rattle.queue.specs.declared.Channel.{Channel}
 use Rattle.queue.specs.declared.Found.{Found}
 use Rattle.queue.specs.declared.Found.the-variants as found
 use Rattle.queue.specs.declared.Change.{Change}
-use Rattle.queue.specs.declared.Change.the-variants.{Nothing, Add, TakeOut, Mark}
-use Rattle.queue.specs.Entries.{is-named, marked, gone, marking, zero-entry, is-zero-entry}
+use Rattle.queue.specs.declared.Change.the-variants.{Nothing, Add, TakeOut, TakeMatching, Mark}
+use Rattle.queue.specs.Entries.{C, is-named, matches, marked, gone, marking, zero-entry, is-zero-entry}
 use Rattle.queue.specs.Packing.{live, packed, zero-channel}
 use Rattle.queue.specs.code.Changes.{changes}
-use Rattle.queue.specs.code.Methods.{place-from, place-of, added-to, removed-at, marked-at, at-place, changed-to}
+use Rattle.queue.specs.code.Methods.{place-from, place-of, place-of-matching, added-to, removed-at, marked-at, at-place, changed-to}
 use Rattle.queue.proofs.Placed.{placed, not-placed}
 
 pub live-packed : (l : List Entry) → live (packed l) ≡ l
@@ -82,20 +81,21 @@ unfolding marked-at
 marked-packed l i h = rw List·getD-append (channel-path (set-pad zero-entry 24 l i (marked (getD l i zero-entry)) h) (sym (length-set l i (marked (getD l i zero-entry)))))
 
 -- a change at the place that is found is the alteration of the first that passes
-at-packed : (k : ℕ) (t : Transaction) (f : Entry → List Entry) (to : Channel → ℕ → Channel) (l : List Entry)
+at-packed : (p : Entry → Bool) (f : Entry → List Entry) (to : Channel → ℕ → Channel) (l : List Entry)
     → ((i : ℕ) → i < length l → to (packed l) i ≡ packed (take i l ++ (f (getD l i zero-entry) ++ drop (suc i) l)))
-    → (o : Found) → place-from 0 (is-named k t) l ≡ o → at-place o (packed l) (to (packed l)) ≡ packed (alter (is-named k t) f l)
-at-packed k t f to l h found.Nothing e = ap packed (sym (not-placed (is-named k t) 0 l e f))
-at-packed k t f to l h (found.At j) e =
-    let r = placed (is-named k t) 0 l e in
+    → (o : Found) → place-from 0 p l ≡ o → at-place o (packed l) (to (packed l)) ≡ packed (alter p f l)
+at-packed p f to l h found.Nothing e = ap packed (sym (not-placed p 0 l e f))
+at-packed p f to l h (found.At j) e =
+    let r = placed p 0 l e in
     let s : j ≡ r .k = omega (arith, r .after) in
     rw s (h (r .k) (r .inside) ∙ ap packed (sym (r .alters f)))
 
 pub changed-packed : (ch : Change) (l : List Entry) → length l ≤ 24 → length (changes ch l) ≤ 24 → changed-to (packed l) ch ≡ packed (changes ch l)
-unfolding changed-to changes place-of
+unfolding changed-to changes place-of place-of-matching
 changed-packed Nothing l h k = refl
 changed-packed (Add x) l h k = added-packed x l (omega (arith, simp length-append at k))
 changed-packed (TakeOut x) l h k =
-    rw (live-packed l) (at-packed (x .kind) (x .transaction) gone removed-at l (λ i b. removed-packed l i b h) _ refl)
+    rw (live-packed l) (at-packed (is-named (x .kind) (x .transaction)) gone removed-at l (λ i b. removed-packed l i b h) _ refl)
+changed-packed (TakeMatching r) l h k = rw (live-packed l) (at-packed (matches C r) gone removed-at l (λ i b. removed-packed l i b h) _ refl)
 changed-packed (Mark x) l h k =
-    rw (live-packed l) (at-packed (x .kind) (x .transaction) marking marked-at l (λ i b. marked-packed l i b ∙ ap packed (set-split l i (marked (getD l i zero-entry)) b)) _ refl)
+    rw (live-packed l) (at-packed (is-named (x .kind) (x .transaction)) marking marked-at l (λ i b. marked-packed l i b ∙ ap packed (set-split l i (marked (getD l i zero-entry)) b)) _ refl)

@@ -8,14 +8,13 @@ use mathlib.Core.List.{List, [], _∷_, _++_}
 use lib.ListN.{length, getD, take, drop, length-take}
 use Rattle.base.specs.Lists.{alter}
 use Rattle.base.proofs.Logic.{split}
-use Rattle.queue.specs.declared.Transaction.{Transaction}
 use Rattle.queue.specs.declared.Entry.{Entry}
 use Rattle.queue.specs.declared.Channel.{Channel}
 use Rattle.queue.specs.declared.Found.{Found}
 use Rattle.queue.specs.declared.Found.the-variants.{At, Nothing}
-use Rattle.queue.specs.Entries.{zero-entry, is-named}
+use Rattle.queue.specs.Entries.{zero-entry}
 use Rattle.queue.specs.Packing.{live}
-use Rattle.queue.specs.code.Methods.{place-from, place-of}
+use Rattle.queue.specs.code.Methods.{place-from}
 
 -- place j, when the search begins at i, is the k-th of l
 pub record Placed (p : Entry → Bool) (l : List Entry) (i j : ℕ) : Type 0 where
@@ -44,9 +43,8 @@ not-placed p i (x ∷ l) h f =
     (λ t. absurd (nothing-at {j = i} h (rw t)))
     (λ n. rw n (ap (x ∷_) (not-placed p (suc i) l (rw n at h) f)))
 
-pub place-bound : (k : ℕ) (t : Transaction) (c : Channel) {j : ℕ} → length (c .entries) ≡ 24 → place-of k t c ≡ At j → j < 24
-unfolding place-of
-place-bound k t c {j} long h =
-    let r = placed (is-named k t) 0 (live c) h in
+pub place-bound : (p : Entry → Bool) (c : Channel) {j : ℕ} → length (c .entries) ≡ 24 → place-from 0 p (live c) ≡ At j → j < 24
+place-bound p c {j} long h =
+    let r = placed p 0 (live c) h in
     let b = simp length-take at (r .inside) in
     omega (arith, r .after, b)

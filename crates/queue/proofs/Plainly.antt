@@ -7,7 +7,7 @@ use mathlib.Core.Bool as bool
 use mathlib.Core.List.{List, [], _∷_, _++_}
 use borrow.Author.Tests.{eqb-true, eq-eqb, ne-eqb}
 use lib.Dec.{eqb}
-use Rattle.base.specs.Lists.{find, count, any}
+use Rattle.base.specs.Lists.{find, count, any, is-some}
 use Rattle.base.proofs.Cases.{and-yes}
 use Rattle.base.proofs.Logic.{split, and-true, or-false}
 use Rattle.base.proofs.Lists.{is-none}
@@ -16,7 +16,7 @@ use Rattle.queue.specs.declared.Transaction.{Transaction}
 use Rattle.queue.specs.declared.Entry.{Entry}
 use Rattle.queue.specs.Entries.{P, C, is-kind, same-transaction, is-named}
 use Rattle.queue.specs.Queues.{oldest, stands, behind-P, first-C, filling}
-use Rattle.queue.specs.code.Changes.{look-of, dull}
+use Rattle.queue.specs.code.Changes.{look-by, dull}
 
 -- a transaction is its master and its number: no other master's, whatever the target
 pub transaction-path : {t u : Transaction} → t .master .0 ≡ u .master .0 → t .number ≡ u .number → t ≡ u
@@ -57,34 +57,34 @@ module _ (k : ℕ) (t : Transaction) (x : Entry) where
       (and-yes (same-agent (x .transaction .master) (t .master)) (eqb (x .transaction .number) (t .number)) (eq-eqb (x .transaction .master .0) (t .master .0) m) refl)
 
 -- 'not there' is told in one way
-pub not-there-is-dull : (k : ℕ) (t : Transaction) (l : List Entry) → stands k t l ≡ false → look-of k t l ≡ dull
-unfolding look-of behind-P
-not-there-is-dull k t l h = rw (is-none (oldest k t l) h)
+pub not-there-is-dull : (p : Entry → Bool) (l : List Entry) → is-some (find p l) ≡ false → look-by p l ≡ dull
+unfolding behind-P
+not-there-is-dull p l h = rw (is-none (find p l) h)
 
--- from the oldest on: one that is not it, a P, holds it back where it comes later; any other is passed over
-module _ (k : ℕ) (t : Transaction) (x : Entry) (l : List Entry) where
-  pub behind-P-past : is-named k t x ≡ false → behind-P k t (x ∷ l) ≡ cond (is-kind P x) (stands k t l) (behind-P k t l)
+-- from the oldest on: one that does not pass, a P, holds the one that does back where it comes later; any other is passed over
+module _ (p : Entry → Bool) (x : Entry) (l : List Entry) where
+  pub behind-P-past : p x ≡ false → behind-P p (x ∷ l) ≡ cond (is-kind P x) (is-some (find p l)) (behind-P p l)
   unfolding behind-P find
-  behind-P-past h = split (is-kind P x) (λ y. rw (y, h) (bool.and-true (stands k t l))) (λ n. rw (n, h))
+  behind-P-past h = split (is-kind P x) (λ y. rw (y, h) (bool.and-true (is-some (find p l)))) (λ n. rw (n, h))
 
-  pub behind-P-here : is-named k t x ≡ true → behind-P k t (x ∷ l) ≡ false
+  pub behind-P-here : p x ≡ true → behind-P p (x ∷ l) ≡ false
   unfolding behind-P find
   behind-P-here h = split (is-kind P x) (λ y. simp (y, h)) (λ n. simp (n, h))
 
-comes-later : (k : ℕ) (t : Transaction) (us : List Entry) (x : Entry) (vs : List Entry) → is-named k t x ≡ true → stands k t (us ++ (x ∷ vs)) ≡ true
+comes-later : (p : Entry → Bool) (us : List Entry) (x : Entry) (vs : List Entry) → p x ≡ true → is-some (find p (us ++ (x ∷ vs))) ≡ true
 unfolding find
-comes-later k t [] x vs h = rw h
-comes-later k t (u ∷ us) x vs h = split (is-named k t u) (λ y. rw y) (λ y. rw y (comes-later k t us x vs h))
+comes-later p [] x vs h = rw h
+comes-later p (u ∷ us) x vs h = split (p u) (λ y. rw y) (λ y. rw y (comes-later p us x vs h))
 
--- x is the oldest of its name: an older P stands before it exactly where one of those before it is a P
-pub behind-P-is : (k : ℕ) (t : Transaction) (us : List Entry) (x : Entry) (vs : List Entry) → any (is-named k t) us ≡ false → is-named k t x ≡ true
-    → behind-P k t (us ++ (x ∷ vs)) ≡ any (is-kind P) us
+-- x is the oldest that passes: an older P stands before it exactly where one of those before it is a P
+pub behind-P-is : (p : Entry → Bool) (us : List Entry) (x : Entry) (vs : List Entry) → any p us ≡ false → p x ≡ true
+    → behind-P p (us ++ (x ∷ vs)) ≡ any (is-kind P) us
 unfolding any
-behind-P-is k t [] x vs n h = behind-P-here k t x vs h
-behind-P-is k t (u ∷ us) x vs n h =
-    let r = or-false (is-named k t u) (any (is-named k t) us) n in
-    let past = behind-P-past k t u (us ++ (x ∷ vs)) (r .0) in
-    split (is-kind P u) (λ y. past ∙ rw y (comes-later k t us x vs h)) (λ y. past ∙ rw y (behind-P-is k t us x vs (r .1) h))
+behind-P-is p [] x vs n h = behind-P-here p x vs h
+behind-P-is p (u ∷ us) x vs n h =
+    let r = or-false (p u) (any p us) n in
+    let past = behind-P-past p u (us ++ (x ∷ vs)) (r .0) in
+    split (is-kind P u) (λ y. past ∙ rw y (comes-later p us x vs h)) (λ y. past ∙ rw y (behind-P-is p us x vs (r .1) h))
 
 -- and a C is the oldest C exactly where none of those before it is one
 pub first-C-is : (t : Transaction) (us : List Entry) (x : Entry) (vs : List Entry) → any (is-named C t) us ≡ false → is-named C t x ≡ true

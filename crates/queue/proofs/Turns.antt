@@ -8,14 +8,13 @@ use mathlib.Core.List.{List, [], _∷_}
 use lib.ListN.{length, getD, drop, length-take}
 use Rattle.base.specs.Lists.{find}
 use Rattle.base.proofs.Walks.{walk-on, walk-over}
-use Rattle.queue.specs.declared.Transaction.{Transaction}
 use Rattle.queue.specs.declared.Entry.{Entry}
 use Rattle.queue.specs.declared.Channel.{Channel}
 use Rattle.queue.specs.declared.Look.{Look}
-use Rattle.queue.specs.Entries.{P, zero-entry, is-kind, is-named}
+use Rattle.queue.specs.Entries.{P, zero-entry, is-kind}
 use Rattle.queue.specs.Queues.{behind-P}
 use Rattle.queue.specs.Packing.{live}
-use Rattle.queue.specs.code.Changes.{look-of, dull}
+use Rattle.queue.specs.code.Changes.{look-by, dull}
 use Rattle.queue.proofs.Plainly.{behind-P-here, behind-P-past}
 
 -- before place i: g of what is left, from here on, is the whole
@@ -41,21 +40,21 @@ module _ {B : Type 0} {g : ℕ → List Entry → B} {c : Channel} {i : ℕ} {w 
 abbrev pub seen : Bool → Look → Look
 seen b k = record { found = k .found; behind = cond b (k .found) (k .behind); entry = k .entry }
 
-module _ (k : ℕ) (t : Transaction) where
-  pub look-here : (b : Bool) (x : Entry) (l : List Entry) → is-named k t x ≡ true → record { found = true; behind = b; entry = x } ≡ seen b (look-of k t (x ∷ l))
-  unfolding look-of find
+module _ (p : Entry → Bool) where
+  pub look-here : (b : Bool) (x : Entry) (l : List Entry) → p x ≡ true → record { found = true; behind = b; entry = x } ≡ seen b (look-by p (x ∷ l))
+  unfolding find
   look-here true x l h = rw h
-  look-here false x l h = rw (h, behind-P-here k t x l h)
+  look-here false x l h = rw (h, behind-P-here p x l h)
 
-  pub look-past : (b b′ y : Bool) (x : Entry) (l : List Entry) → is-named k t x ≡ false → is-kind P x ≡ y → b′ ≡ cond y true b
-      → seen b′ (look-of k t l) ≡ seen b (look-of k t (x ∷ l))
-  unfolding look-of find
+  pub look-past : (b b′ y : Bool) (x : Entry) (l : List Entry) → p x ≡ false → is-kind P x ≡ y → b′ ≡ cond y true b
+      → seen b′ (look-by p l) ≡ seen b (look-by p (x ∷ l))
+  unfolding find
   look-past true b′ true x l h y w = rw (h, w)
   look-past true b′ false x l h y w = rw (h, w)
-  look-past false b′ true x l h y w = rw (h, behind-P-past k t x l h, y, w)
-  look-past false b′ false x l h y w = rw (h, behind-P-past k t x l h, y, w)
+  look-past false b′ true x l h y w = rw (h, behind-P-past p x l h, y, w)
+  look-past false b′ false x l h y w = rw (h, behind-P-past p x l h, y, w)
 
-  pub look-none : (b : Bool) → dull ≡ seen b (look-of k t [])
-  unfolding look-of behind-P find
+  pub look-none : (b : Bool) → dull ≡ seen b (look-by p [])
+  unfolding behind-P find
   look-none true = refl
   look-none false = refl

@@ -35,6 +35,10 @@ is-of t x = same-transaction (x .transaction) t
 unfoldable pub is-named : ℕ → Transaction → Entry → Bool
 is-named k t x = is-kind k x && is-of t x
 
+-- of that kind, and the one that goes with the request r: matched by originating master and number, whatever the target
+unfoldable pub matches : ℕ → Entry → Entry → Bool
+matches k r x = is-kind k x && same-transaction (x .transaction) (r .transaction)
+
 -- the entry with its committed mark
 unfoldable pub marked : Entry → Entry
 marked x = record {

@@ -7,8 +7,8 @@ ghost use Rattle.base.specs.Lists.{all};
 ghost use Rattle.queue.specs.Entries.{zero-entry, is-kind, is-named, marked, as-kind, is-zero-entry};
 ghost use Rattle.queue.specs.Queues.{filling, first-C};
 ghost use Rattle.queue.specs.Packing.{live, zero-channel};
-ghost use Rattle.queue.specs.code.Changes.{look-of, dull};
-ghost use Rattle.queue.specs.code.Methods.{place-of, added-to, removed-at, marked-at, changed-to};
+ghost use Rattle.queue.specs.code.Changes.{look-of, match-of, dull};
+ghost use Rattle.queue.specs.code.Methods.{place-of, place-of-matching, added-to, removed-at, marked-at, changed-to};
 
 // A transaction is named by its master and a number.
 pub struct Transaction {
@@ -46,11 +46,13 @@ pub struct Look {
     pub entry: Entry,
 }
 
-// What an event does to one channel. The entry that is taken out or marked is named by its kind and transaction.
+// What an event does to one channel. The entry that is taken out or marked is named by its kind and transaction; or it is
+// the C that matches a request.
 pub enum Change {
     Nothing,
     Add(Entry),
     TakeOut(Entry),
+    TakeMatching(Entry),
     Mark(Entry),
 }
 
@@ -210,6 +212,20 @@ impl Channel {
         Look::dull()
     }
 
+    // The oldest one that matches a request. It is found by originating master and number, so by the request's own name.
+    pub fn matching(self, kind: u8, request: Entry) -> Look
+        ensures { λ r. ⌜ r ≡ match-of kind request (live self) ⌝ }
+    {
+        self.looked(kind, request.transaction)
+    }
+
+    // Its place.
+    pub fn found_matching(self, kind: u8, request: Entry) -> Found
+        ensures { λ r. ⌜ r ≡ place-of-matching kind request self ⌝ }
+    {
+        self.found(kind, request.transaction)
+    }
+
     // Each kind is counted by itself.
     pub fn filling(self, kind: u8) -> usize
         ensures { λ r. ⌜ r ≡ filling (is-kind kind) (live self) ⌝ }
@@ -291,6 +307,13 @@ impl Channel {
             Change::Add(x) => self.added(x),
             Change::TakeOut(x) => {
                 let f = self.found(x.kind, x.transaction);
+                match f {
+                    Found::At(i) => self.removed(i),
+                    Found::Nothing => self,
+                }
+            }
+            Change::TakeMatching(r) => {
+                let f = self.found_matching(C, r);
                 match f {
                     Found::At(i) => self.removed(i),
                     Found::Nothing => self,

@@ -9,10 +9,11 @@ use Rattle.chassis.specs.declared.NextPlace.the-variants.{Target, Through}
 use Rattle.chassis.specs.Numbers.{agent, chan, same-agent}
 use Rattle.chassis.specs.Channels.{has-agent, has-chan, is-master, master-channel, opposite}
 use Rattle.queue.specs.declared.Transaction.{Transaction}
+use Rattle.queue.specs.declared.Entry.{Entry}
 use Rattle.queue.specs.declared.Look.{Look}
 use Rattle.queue.specs.Entries.{P, R, C}
-use Rattle.queue.specs.Queues.{stands}
-use Rattle.queue.specs.code.Changes.{look-of, dull}
+use Rattle.queue.specs.Queues.{stands, has-matching}
+use Rattle.queue.specs.code.Changes.{look-of, match-of, dull}
 use Rattle.network.specs.Nets.{Net, waiting, full}
 use Rattle.events.specs.declared.Event.{Event}
 use Rattle.events.specs.declared.Event.the-variants.{BeginPosted, BeginRead, BeginWrite, Commit, Post, Latch, Complete, DropRequest, DropCompletion}
@@ -20,7 +21,7 @@ use Rattle.events.specs.declared.Decoded.{Decoded}
 use Rattle.events.specs.declared.Decoded.the-variants.{Known, Unfit}
 use Rattle.read_events.specs.declared.Frame.{Frame}
 use Rattle.read_events.specs.declared.Sight.{Sight}
-use Rattle.events.specs.Tests.{ahead, full-ahead, answer-full, is-channel-with, is-oldest-C}
+use Rattle.events.specs.Tests.{ahead, entry-at, full-ahead, answer-full, is-channel-with, is-oldest-C}
 use Rattle.events.specs.Accounts.{account}
 
 -- ---- the frame
@@ -86,9 +87,9 @@ back-or T N = cond (is-master T N) N (opposite T N)
 abbrev pub sees-full : Bool → Sight
 sees-full b = record { full = b; waits = false; answer = dull; oldest = false }
 
-abbrev pub look-back : Net → Transaction → NextPlace → Look
-look-back s t Target = dull
-look-back s t (Through X) = look-of C t (waiting s (opposite (s .table) X))
+abbrev pub look-back : Net → Entry → NextPlace → Look
+look-back s r Target = dull
+look-back s r (Through X) = match-of C r (waiting s (opposite (s .table) X))
 
 unfoldable pub sight : Net → Event → Sight
 sight s (BeginPosted m a) = sees-full (full s P m (master-channel m))
@@ -98,14 +99,14 @@ sight s (Commit N t) = sees-full false
 sight s (Post N t) = sees-full (full-ahead s P (t .master) (next-of s (Post N t)))
 sight s (Latch N t) = record {
   full = full-ahead s R (t .master) (next-of s (Latch N t));
-  waits = is-channel-with (λ X. stands R t (waiting s X)) (next-of s (Latch N t));
-  answer = look-back s t (next-of s (Latch N t));
+  waits = is-channel-with (λ X. has-matching R (entry-at s R N t) (waiting s X)) (next-of s (Latch N t));
+  answer = look-back s (entry-at s R N t) (next-of s (Latch N t));
   oldest = false;
 }
 sight s (Complete N t) = record {
   full = answer-full s (t .master) N;
   waits = false;
-  answer = look-back s t (next-of s (Complete N t));
+  answer = look-back s (entry-at s R N t) (next-of s (Complete N t));
   oldest = false;
 }
 sight s (DropRequest N t) = sees-full false

@@ -1,5 +1,5 @@
--- What is told of the channels that were read: N's own entries, N1's, those of N1's opposite and of N's opposite. That it is
--- what the state shows: steps/proofs/Shown.antt.
+-- What is told of the channels that were read: N's own entries, N1's, those of N1's opposite and of N's opposite; r is the entry that
+-- the event names, which others are matched to. That it is what the state shows: play_events/proofs/Shown.antt.
 use Prim.Native.Nat.{ℕ, _<_}
 use mathlib.Core.Bool.{Bool, true, false, cond, not, _&&_}
 use mathlib.Core.List.{List}
@@ -13,8 +13,8 @@ use Rattle.queue.specs.declared.Transaction.{Transaction}
 use Rattle.queue.specs.declared.Entry.{Entry}
 use Rattle.queue.specs.declared.Look.{Look}
 use Rattle.queue.specs.Entries.{P, R, C}
-use Rattle.queue.specs.Queues.{stands, first-C}
-use Rattle.queue.specs.code.Changes.{look-of, dull}
+use Rattle.queue.specs.Queues.{has-matching, first-C}
+use Rattle.queue.specs.code.Changes.{match-of, dull}
 use Rattle.network.specs.Rooms.{room-of, is-full}
 use Rattle.events.specs.declared.Event.{Event}
 use Rattle.events.specs.declared.Event.the-variants.{BeginPosted, BeginRead, BeginWrite, Commit, Post, Latch, Complete, DropRequest, DropCompletion}
@@ -47,7 +47,7 @@ full-in T k l = is-full (room-of T k) l
 abbrev pub full-back : Table → Chan → List Entry → Bool
 full-back T N back = not (is-master T N) && full-in T C back
 
-module _ (T : Table) (next : NextPlace) (here ahead answer back : List Entry) where
+module _ (T : Table) (next : NextPlace) (r : Entry) (here ahead answer back : List Entry) where
   abbrev pub sight-told : Event → Sight
   sight-told (BeginPosted m a) = sees-full (full-in T P here)
   sight-told (BeginRead m a) = sees-full (full-in T R here)
@@ -56,14 +56,14 @@ module _ (T : Table) (next : NextPlace) (here ahead answer back : List Entry) wh
   sight-told (Post N t) = sees-full (if-channel next (full-in T P ahead))
   sight-told (Latch N t) = record {
     full = if-channel next (full-in T R ahead);
-    waits = if-channel next (stands R t ahead);
-    answer = look-if next (look-of C t answer);
+    waits = if-channel next (has-matching R r ahead);
+    answer = look-if next (match-of C r answer);
     oldest = false;
   }
   sight-told (Complete N t) = record {
     full = full-back T N back;
     waits = false;
-    answer = look-if next (look-of C t answer);
+    answer = look-if next (match-of C r answer);
     oldest = false;
   }
   sight-told (DropRequest N t) = sees-full false

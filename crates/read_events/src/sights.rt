@@ -14,8 +14,8 @@ ghost use mathlib.Core.Path.{_≡_};
 ghost use mathlib.Core.Bool.{false};
 ghost use Prim.Native.Nat.{_<_, _≤_};
 ghost use Rattle.queue.specs.Packing.{live};
-ghost use Rattle.queue.specs.Queues.{stands, first-C};
-ghost use Rattle.queue.specs.code.Changes.{look-of, dull};
+ghost use Rattle.queue.specs.Queues.{has-matching, first-C};
+ghost use Rattle.queue.specs.code.Changes.{match-of, dull};
 ghost use Rattle.read_events.specs.Frames.{ahead-or, answer-or, back-or, sees-full};
 ghost use Rattle.read_events.specs.Sights.{small};
 ghost use Rattle.read_events.specs.Sights.{if-channel, look-if, full-in, full-back, sight-told};
@@ -81,35 +81,35 @@ fn sees_full(full: bool) -> Sight
     }
 }
 
-// Where N1 is a channel: what its opposite shows of the C.
-fn look_back(next: NextPlace, x: Transaction, c: Channel) -> Look
-    ensures { λ r. ⌜ r ≡ look-if next (look-of 3 x (live c)) ⌝ }
+// Where N1 is a channel: what its opposite shows of the C that matches.
+fn look_back(next: NextPlace, request: Entry, c: Channel) -> Look
+    ensures { λ r. ⌜ r ≡ look-if next (match-of 3 request (live c)) ⌝ }
 {
     match next {
         NextPlace::Target => Look::dull(),
-        NextPlace::Through(_) => c.looked(3, x),
+        NextPlace::Through(_) => c.matching(3, request),
     }
 }
 
-// Where N1 is a channel: does it hold the R.
-fn waits_ahead(next: NextPlace, x: Transaction, c: Channel) -> bool
-    ensures { λ r. ⌜ r ≡ if-channel next (stands 2 x (live c)) ⌝ }
+// Where N1 is a channel: does it hold the R that matches.
+fn waits_ahead(next: NextPlace, request: Entry, c: Channel) -> bool
+    ensures { λ r. ⌜ r ≡ if-channel next (has-matching 2 request (live c)) ⌝ }
 {
     match next {
         NextPlace::Target => false,
         NextPlace::Through(_) => {
-            let l = c.looked(2, x);
+            let l = c.matching(2, request);
             l.found
         }
     }
 }
 
-fn sight_latch(t: Table, next: NextPlace, x: Transaction, ahead: Channel, answer: Channel) -> Sight
-    ensures { λ r. ⌜ r ≡ sight-told t next (live answer) (live ahead) (live answer) (live answer) (Event.Latch (record { 0 = 0 }) x) ⌝ }
+fn sight_latch(t: Table, next: NextPlace, request: Entry, ahead: Channel, answer: Channel) -> Sight
+    ensures { λ r. ⌜ r ≡ sight-told t next request (live answer) (live ahead) (live answer) (live answer) (Event.Latch (record { 0 = 0 }) (request .transaction)) ⌝ }
 {
     let full = full_ahead(t, 2, next, ahead);
-    let waits = waits_ahead(next, x, ahead);
-    let back = look_back(next, x, answer);
+    let waits = waits_ahead(next, request, ahead);
+    let back = look_back(next, request, answer);
     Sight {
         full,
         waits,
@@ -122,14 +122,14 @@ fn sight_complete(
     t: Table,
     next: NextPlace,
     n: Chan,
-    x: Transaction,
+    request: Entry,
     answer: Channel,
     back: Channel,
 ) -> Sight
-    ensures { λ r. ⌜ r ≡ sight-told t next (live answer) (live answer) (live answer) (live back) (Event.Complete n x) ⌝ }
+    ensures { λ r. ⌜ r ≡ sight-told t next request (live answer) (live answer) (live answer) (live back) (Event.Complete n (request .transaction)) ⌝ }
 {
     let full = full_back(t, n, back);
-    let look = look_back(next, x, answer);
+    let look = look_back(next, request, answer);
     Sight {
         full,
         waits: false,
@@ -150,17 +150,18 @@ fn sight_drop(x: Transaction, here: Channel) -> Sight
     }
 }
 
-// As far as the event's kind asks.
+// As far as the event's kind asks. `request` is the entry that it names.
 pub fn sight_of(
     t: Table,
     e: Event,
     next: NextPlace,
+    request: Entry,
     here: Channel,
     ahead: Channel,
     answer: Channel,
     back: Channel,
 ) -> Sight
-    ensures { λ r. ⌜ r ≡ sight-told t next (live here) (live ahead) (live answer) (live back) e ⌝ }
+    ensures { λ r. ⌜ r ≡ sight-told t next request (live here) (live ahead) (live answer) (live back) e ⌝ }
 {
     match e {
         Event::BeginPosted {
@@ -185,12 +186,12 @@ pub fn sight_of(
         } => sees_full(full_ahead(t, 1, next, ahead)),
         Event::Latch {
             channel: _,
-            transaction,
-        } => sight_latch(t, next, transaction, ahead, answer),
+            transaction: _,
+        } => sight_latch(t, next, request, ahead, answer),
         Event::Complete {
             channel,
-            transaction,
-        } => sight_complete(t, next, channel, transaction, answer, back),
+            transaction: _,
+        } => sight_complete(t, next, channel, request, answer, back),
         Event::DropRequest {
             channel: _,
             transaction: _,

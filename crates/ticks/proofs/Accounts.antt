@@ -3,7 +3,7 @@
 use Prim.Native.Nat.{ℕ, _+_}
 use native.Mathlib.Omega.{arith}
 use mathlib.Core.Path.{_≡_, refl, sym, ap, subst, subst⁻¹, _∙_}
-use mathlib.Core.Logic.{_≢_, inl, inr}
+use mathlib.Core.Logic.{inl, inr}
 use mathlib.Core.List.{List, [], _∷_, _++_}
 use mathlib.Core.Bool.{Bool, true, false, not, _&&_}
 use mathlib.Core.Option.{Option, none, some}
@@ -22,15 +22,16 @@ use Rattle.chassis.specs.Routes.{next-place}
 use Rattle.chassis.specs.Tables.{table-passes}
 use Rattle.queue.specs.declared.Transaction.{Transaction}
 use Rattle.queue.specs.declared.Entry.{Entry}
-use Rattle.queue.specs.Entries.{P, R, C, is-kind, is-named, as-kind, zero-entry, gone, marking}
+use Rattle.queue.specs.Entries.{P, R, C, is-kind, is-named, matches, as-kind, zero-entry, gone, marking}
 use Rattle.queue.specs.Queues.{oldest, first-C}
 use Rattle.queue.proofs.Plainly.{named-is-its-own}
-use Rattle.queue.proofs.Marks.{named-blind}
+use Rattle.queue.proofs.Marks.{named-blind, matches-blind}
+use Rattle.queue.proofs.Matching.{matching-kind}
 use Rattle.network.specs.Nets.{Net, waiting}
 use Rattle.network.specs.Edits.{change}
 use Rattle.events.specs.declared.Event.{Event}
 use Rattle.events.specs.declared.Event.the-variants.{BeginPosted, BeginRead, BeginWrite, Commit, Post, Latch, Complete, DropRequest, DropCompletion}
-use Rattle.events.specs.Tests.{entry-at, ahead, is-target, answer-full, no-such-entry, is-oldest-C}
+use Rattle.events.specs.Tests.{entry-at, ahead, is-target, answer-full, no-such-entry, latched-already, unanswered, is-oldest-C, read-answer-behind-P}
 use Rattle.events.specs.Grounds.{named-grounds, grounds, Accepted}
 use Rattle.events.specs.Effects.{leaves, is-marked, enters, answer-taken, answer-given, effects, value}
 use Rattle.ticks.specs.Footings.{Footing, occurs-on, drops-the, the-R, taken-from, footing}
@@ -73,12 +74,16 @@ module _ (s : Net) (N : Chan) (t : Transaction) where
   ahead-is k u x q h =
       ap (λ (o : Option Entry). next-place (u .table) N ((or-else zero-entry o) .target)) h ∙ ap (λ (T : Table). next-place T N (x .target)) q
 
+  -- and so is all that is made of the two
+  moved-is : {B : Type 0} (k : ℕ) (u : Net) (x : Entry) (f : Entry → NextPlace → B) → u .table ≡ s .table → oldest k t (waiting u N) ≡ some x
+      → f (entry-at u k N t) (ahead u k N t) ≡ f x (next-place (s .table) N (x .target))
+  moved-is k u x f q h =
+      ap (f (entry-at u k N t)) (ahead-is k u x q h) ∙ ap (λ (o : Option Entry). f (or-else zero-entry o) (next-place (s .table) N (x .target))) h
+
   -- what is made of the entry enters there
   enters-is : (k : ℕ) (u : Net) (x : Entry) (g : Entry → Entry) → u .table ≡ s .table → oldest k t (waiting u N) ≡ some x
       → enters (ahead u k N t) (g (entry-at u k N t)) ≡ enters (next-place (s .table) N (x .target)) (g x)
-  enters-is k u x g q h =
-      ap (λ (N1 : NextPlace). enters N1 (g (entry-at u k N t))) (ahead-is k u x q h)
-      ∙ ap (λ (o : Option Entry). enters (next-place (s .table) N (x .target)) (g (or-else zero-entry o))) h
+  enters-is k u x g q h = moved-is k u x (λ y N1. enters N1 (g y)) q h
 
   entering-is : (N1 : NextPlace) (x : Entry) → edits-of (entering N1 x) ≡ enters N1 x
   entering-is Target x = refl
@@ -160,6 +165,9 @@ module _ (s : Net) (N : Chan) (t : Transaction) where
         let n = goes-through (next-place (s .table) N (x .target)) (rw (ahead-is R s x refl (r .1 .found)) at (d .0)) in
         let X = n .0 in
         let here : (u : Net) → u .table ≡ s .table → oldest R t (waiting u N) ≡ some x → ahead u R N t ≡ Through X = λ u q h. ahead-is R u x q h ∙ n .1 in
+        let already : (u : Net) → u .table ≡ s .table → oldest R t (waiting u N) ≡ some x
+        → latched-already u (entry-at u R N t) (ahead u R N t) ≡ latched-already u x (Through X)
+        = λ u q h. moved-is R u x (latched-already u) q h ∙ ap (latched-already u x) (n .1) in
         let e = tries-R none in
         let v = gives-ahead s passed e N (named-there R _ c) refl (x .target) X (n .1) in
         record {
@@ -168,13 +176,13 @@ module _ (s : Net) (N : Chan) (t : Transaction) where
               (joined s e ((is-marked N t, x) ∷ []) (adding X (as-kind R x))
               (named-piece R N t s e marking x marks (uses-R none) (r .1))
               (joined s e [] (adding X (as-kind R x))
-              (free-piece s e t X v (ahead-and-back s passed e N (named-there R _ c) refl (x .target) X (n .1)) (rw (here s refl (r .1 .found)) at (d .1 .1 .0)))
+              (free-piece s e x X v (ahead-and-back s passed e N (named-there R _ c) refl (x .target) X (n .1)) (sym (already s refl (r .1 .found)) ∙ d .1 .1 .0))
               (adding-piece s e R (t .master) X (as-kind R x) v (no-answers s X (as-kind R x) R refl R≢C) (rw (here s refl (r .1 .found)) at (d .1 .1 .1 .0)))))
               (λ u q b. record {
                 accepted = unclear (grounds u (Latch N t))
                     (named-clear R u x _ _ q (b .0 .found) c (
                       rw (here u q (b .0 .found)),
-                      (still-not-behind R N t u x (b .0), (rw (here u q (b .0 .found)) (b .1 .0), (rw (here u q (b .0 .found)) (b .1 .1), tt))),
+                      (still-not-behind R N t u x (b .0), (already u q (b .0 .found) ∙ b .1 .0, (rw (here u q (b .0 .found)) (b .1 .1), tt))),
                     ));
                 does = ap (is-marked N t ∷_) (enters-is R u x (as-kind R) q (b .0 .found) ∙ sym (enters-is R s x (as-kind R) refl (r .1 .found)));
                 says = refl;
@@ -199,47 +207,46 @@ module _ (s : Net) (N : Chan) (t : Transaction) where
         ∙ ap (λ (T : Table). occurs-on (out-bus T N) (some (the-R N t)) (taken-from T (next-place (s .table) N (x .target)))) q
 
     complete-effects : (u : Net) (x : Entry) → u .table ≡ s .table → oldest R t (waiting u N) ≡ some x
-        → effects u (Complete N t) ≡ leaves R N t ∷ (answer-taken (s .table) (next-place (s .table) N (x .target)) t ++ answer-given (s .table) N x)
+        → effects u (Complete N t) ≡ leaves R N t ∷ (answer-taken (s .table) (next-place (s .table) N (x .target)) x ++ answer-given (s .table) N x)
     unfolding effects
     complete-effects u x q h =
-        ap (λ (N1 : NextPlace). leaves R N t ∷ (answer-taken (u .table) N1 t ++ answer-given (u .table) N (entry-at u R N t))) (ahead-is R u x q h)
-        ∙ ap (λ (o : Option Entry).
-        leaves R N t ∷ (answer-taken (u .table) (next-place (s .table) N (x .target)) t ++ answer-given (u .table) N (or-else zero-entry o))) h
-        ∙ ap (λ (T : Table). leaves R N t ∷ (answer-taken T (next-place (s .table) N (x .target)) t ++ answer-given T N x)) q
+        moved-is R u x (λ y N1. leaves R N t ∷ (answer-taken (u .table) N1 y ++ answer-given (u .table) N y)) q h
+        ∙ ap (λ (T : Table). leaves R N t ∷ (answer-taken T (next-place (s .table) N (x .target)) x ++ answer-given T N x)) q
 
     complete-edits : (N1 : NextPlace) (b : Bool) (x c : Entry) → is-master (s .table) N ≡ b
-        → edits-of (bringing-deeds (s .table) N1 t c ++ giving (s .table) b N x) ≡ answer-taken (s .table) N1 t ++ answer-given (s .table) N x
+        → edits-of (bringing-deeds (s .table) N1 x c ++ giving (s .table) b N x) ≡ answer-taken (s .table) N1 x ++ answer-given (s .table) N x
     complete-edits Target true x c m = rw m
     complete-edits Target false x c m = rw m
     complete-edits (Through X) true x c m = rw m
     complete-edits (Through X) false x c m = rw m
 
     -- the R and the C are two entries
-    two-entries : (Y : Chan) (x c : Entry) → is-named R t x ≡ true → is-named C t c ≡ true → Apart (leaves R N t, x) (leaves C Y t, c)
-    two-entries Y x c h k = (
-      quiet (is-named R t) (named-blind R t) takes-out,
-      quiet (is-named C t) (named-blind C t) takes-out,
-      inr (other-kind R C x R≢C h, other-kind C R c (λ q. R≢C (sym q)) k),
-    )
-      where
-        other-kind : (j k : ℕ) (y : Entry) → j ≢ k → is-named j t y ≡ true → is-named k t y ≡ false
-        other-kind j k y n i = split (is-named k t y) (λ v. absurd (n (sym (named-is-its-own j t y i .0) ∙ named-is-its-own k t y v .0))) (λ v. v)
+    two-entries : (Y : Chan) (x c : Entry) → is-named R t x ≡ true → matches C x c ≡ true → Apart (leaves R N t, x) (change Y (matches C x) gone, c)
+    two-entries Y x c h k =
+        let request = named-is-its-own R t x h .0 in
+        let answer = matching-kind C x c k in (
+          quiet (is-named R t) (named-blind R t) takes-out,
+          quiet (matches C x) (matches-blind C x) takes-out,
+          inr (
+            split (matches C x x) (λ v. absurd (R≢C (sym request ∙ matching-kind C x x v))) (λ v. v),
+            split (is-named R t c) (λ v. absurd (R≢C (sym (named-is-its-own R t c v .0) ∙ answer))) (λ v. v),
+          ),
+        )
 
-    complete-inwards : (N1 : NextPlace) (b : Bool) (x c : Entry) → is-named R t x ≡ true → ((X : Chan) → N1 ≡ Through X → is-named C t c ≡ true)
-        → Inwards ((leaves R N t, x) ∷ (bringing-deeds (s .table) N1 t c ++ giving (s .table) b N x))
+    complete-inwards : (N1 : NextPlace) (b : Bool) (x c : Entry) → is-named R t x ≡ true → ((X : Chan) → N1 ≡ Through X → matches C x c ≡ true)
+        → Inwards ((leaves R N t, x) ∷ (bringing-deeds (s .table) N1 x c ++ giving (s .table) b N x))
     complete-inwards Target true x c h k = (tt, tt)
     complete-inwards Target false x c h k = ((tt, tt), (tt, tt))
     complete-inwards (Through X) true x c h k = ((two-entries (opposite (s .table) X) x c h (k X refl), tt), (tt, tt))
     complete-inwards (Through X) false x c h k = ((two-entries (opposite (s .table) X) x c h (k X refl), (tt, tt)), ((tt, tt), (tt, tt)))
 
-    complete-again : (u : Net) (x : Entry) → u .table ≡ s .table → Named s R N t x → Named u R N t x → Brings u t (next-place (s .table) N (x .target))
+    complete-again : (u : Net) (x : Entry) → u .table ≡ s .table → Named s R N t x → Named u R N t x → Brings u x (next-place (s .table) N (x .target))
         → answer-full u (t .master) N ≡ false → Clear (grounds s (Complete N t)) → Again s u (Complete N t)
     unfolding grounds value
     complete-again u x q a b k f c =
-        let here = ahead-is R u x q (b .found) in
         record {
           accepted = unclear (grounds u (Complete N t))
-              (named-clear R u x _ _ q (b .found) c (still-not-behind R N t u x b, (rw here (k .there), (rw here (k .in-turn), (f, tt)))));
+              (named-clear R u x _ _ q (b .found) c (still-not-behind R N t u x b, (moved-is R u x (unanswered u) q (b .found) ∙ k .there, (moved-is R u x (read-answer-behind-P u) q (b .found) ∙ k .in-turn, (f, tt)))));
           does = complete-effects u x q (b .found) ∙ sym (complete-effects s x refl (a .found));
           says = refl;
           stands = complete-stands u x q (b .found) ∙ sym (complete-stands s x refl (a .found));
@@ -258,20 +265,20 @@ module _ (s : Net) (N : Chan) (t : Transaction) where
         let here = ahead-is R s x refl (r .1 .found) in
         let there = named-there R _ c in
         let own = named-is-its-own R t x (r .1 .named) in
-        let w = bringing s e t N1
-        (λ X h. uses-answer s passed e N there refl (x .target) X t h (ap (taken-from (s .table)) (here ∙ h)))
-        (rw here at (d .1 .0)) (rw here at (d .1 .1 .0)) in
+        let w = bringing s e x N1
+        (λ X h. uses-answer s passed e N there refl (x .target) X (x .transaction) h (ap (taken-from (s .table)) (here ∙ h)))
+        (sym (moved-is R s x (unanswered s) refl (r .1 .found)) ∙ d .1 .0) (sym (moved-is R s x (read-answer-behind-P s) refl (r .1 .found)) ∙ d .1 .1 .0) in
         let gives = giving (s .table) b N x in
         record {
-          deeds = (leaves R N t, x) ∷ (bringing-deeds (s .table) N1 t (w .entry) ++ gives);
+          deeds = (leaves R N t, x) ∷ (bringing-deeds (s .table) N1 x (w .entry) ++ gives);
           piece = so s e
-              (joined s e ((leaves R N t, x) ∷ []) (bringing-deeds (s .table) N1 t (w .entry) ++ gives)
+              (joined s e ((leaves R N t, x) ∷ []) (bringing-deeds (s .table) N1 x (w .entry) ++ gives)
               (named-piece R N t s e gone x takes-out (uses-R (taken-from (s .table) (ahead s R N t))) (r .1))
-              (joined s e (bringing-deeds (s .table) N1 t (w .entry)) gives (w .piece)
+              (joined s e (bringing-deeds (s .table) N1 x (w .entry)) gives (w .piece)
               (giving-piece s passed e N there refl b (t .master) x refl
               (subst⁻¹ (λ (u : Transaction). oldest R u (waiting s N) ≡ some x) (own .1) (r .1 .found)) (d .1 .1 .1 .0))))
               (λ u q k. complete-again u x q (r .1) (k .0) (k .1 .0) (k .1 .1) c);
-          inwards = complete-inwards N1 b x (w .entry) (r .1 .named) (w .named);
+          inwards = complete-inwards N1 b x (w .entry) (r .1 .named) (w .matched);
           done = ap (leaves R N t ∷_) (complete-edits N1 b x (w .entry) refl) ∙ sym (complete-effects s x refl (r .1 .found));
         }
 

@@ -14,7 +14,7 @@ use Rattle.chassis.specs.Numbers.{agent, bus, chan, same-agent, same-bus}
 use Rattle.chassis.specs.Channels.{out-bus, opposite}
 use Rattle.chassis.specs.Routes.{component, loop-free, all-joined, one-way, way-over, next-place}
 use Rattle.chassis.specs.Tables.{counts-in-range, unused-are-zero, buses-are-there, a-bridge-on-one-bus, table-grounds, table-passes}
-use Rattle.queue.specs.Entries.{is-named, marked, as-kind}
+use Rattle.queue.specs.Entries.{is-named, matches, marked, as-kind}
 use Rattle.queue.specs.Queues.{behind-P, first-C}
 use Rattle.network.specs.Rooms.{room-for}
 use Rattle.network.specs.Nets.{Net, empty-net}
@@ -151,7 +151,7 @@ claimed r = record {
 }
 
 computed : map found rows ≡ map claimed rows
-unfolding rows T-with lines refusals end-of conflict clash alike footing after value effects new-entry grounds named-grounds begin-grounds edits edit empty-net room-for first-C behind-P as-kind marked is-named table-passes table-grounds a-bridge-on-one-bus buses-are-there unused-are-zero counts-in-range next-place way-over one-way all-joined loop-free component opposite out-bus from-to modify any all count alter find
+unfolding rows T-with lines refusals end-of conflict clash alike footing after value effects new-entry grounds named-grounds begin-grounds edits edit empty-net room-for first-C behind-P as-kind marked is-named matches table-passes table-grounds a-bridge-on-one-bus buses-are-there unused-are-zero counts-in-range next-place way-over one-way all-joined loop-free component opposite out-bus from-to modify any all count alter find
 computed = refl
 
 -- ---- what it says of each row

@@ -8,7 +8,7 @@ use mathlib.Core.List.{List, [], _∷_, _++_}
 use mathlib.Core.Bool.{Bool, true, false, not, _&&_, _||_}
 use mathlib.Core.Option.{Option, none, some}
 use borrow.Author.Tests.{lt-leb, not-false}
-use Rattle.base.specs.Lists.{find, passes}
+use Rattle.base.specs.Lists.{find, is-some, passes, or-else}
 use Rattle.base.proofs.Logic.{split, both, or-false, none-some}
 use Rattle.base.proofs.Lists.{found-passes, is-there, is-none}
 use Rattle.base.proofs.Orders.{All, all-append, all-parts}
@@ -24,15 +24,16 @@ use Rattle.chassis.proofs.Hops.{opposing}
 use Rattle.chassis.proofs.OnTheWay.{next}
 use Rattle.queue.specs.declared.Transaction.{Transaction}
 use Rattle.queue.specs.declared.Entry.{Entry}
-use Rattle.queue.specs.Entries.{P, R, C, is-kind, is-named, marked, as-kind, zero-entry, gone}
+use Rattle.queue.specs.Entries.{P, R, C, is-kind, is-named, matches, marked, as-kind, zero-entry, gone}
 use Rattle.queue.specs.Queues.{oldest, stands, behind-P, filling}
 use Rattle.queue.proofs.Marks.{Blind, named-blind}
+use Rattle.queue.proofs.Matching.{matches-its-name}
 use Rattle.network.specs.Rooms.{Room, room-for, is-full}
 use Rattle.network.specs.Nets.{Net, waiting, begun, full}
 use Rattle.network.specs.Edits.{add, change, raise}
 use Rattle.network.proofs.Rooms.{room-blind}
 use Rattle.network.proofs.Kept.{not-full}
-use Rattle.events.specs.Tests.{entry-at, full-ahead, answer-full, no-such-entry, behind-a-P, answered, latched-already, unanswered, read-answer-behind-P}
+use Rattle.events.specs.Tests.{entry-at, full-ahead, answer-full, no-such-entry, behind-a-P, latched-already, unanswered, read-answer-behind-P}
 use Rattle.events.specs.Effects.{leaves}
 use Rattle.ticks.specs.Footings.{Name, Footing}
 use Rattle.ticks.proofs.Guards.{Guard, has, absent, room, counted, Holds, Deed, Ready}
@@ -197,10 +198,14 @@ giving T false N x = adding (opposite T N) (as-kind C x)
 
 -- ---- nothing of the transaction is at N1 yet, nor comes back from there
 
-pub free-piece : (s : Net) (e : Footing) (t : Transaction) (X : Chan) → Gives s e X → opposite (s .table) (opposite (s .table) X) ≡ X
-    → latched-already s t (Through X) ≡ false → Piece s e [] (λ u. latched-already u t (Through X) ≡ false)
-free-piece s e t X v back h =
-    let r = or-false (stands R t (waiting s X)) (answered s t X) h in
+-- as a test tells it: one that names the transaction, or one that matches the request
+abbrev Free : (ℕ → Entry → Bool) → Chan → Net → Type 0
+Free q X s = (is-some (find (q R) (waiting s X)) || is-some (find (q C) (waiting s (opposite (s .table) X)))) ≡ false
+
+free-by-name : (s : Net) (e : Footing) (t : Transaction) (X : Chan) → Gives s e X → opposite (s .table) (opposite (s .table) X) ≡ X
+    → Free (λ k. is-named k t) X s → Piece s e [] (Free (λ k. is-named k t) X)
+free-by-name s e t X v back h =
+    let r = or-false (stands R t (waiting s X)) (stands C t (waiting s (opposite (s .table) X))) h in
     let none-R = is-none (oldest R t (waiting s X)) (r .0) in
     record {
       guards = absent X (is-named R t) ∷ absent (opposite (s .table) X) (is-named C t) ∷ [];
@@ -215,9 +220,14 @@ free-piece s e t X v back h =
     }
   where
     nothing : (u : Net) → u .table ≡ s .table → oldest R t (waiting u X) ≡ none → oldest C t (waiting u (opposite (s .table) X)) ≡ none
-        → latched-already u t (Through X) ≡ false
+        → Free (λ k. is-named k t) X u
     nothing u q a b =
         subst⁻¹ (λ (Y : Chan). (stands R t (waiting u X) || stands C t (waiting u Y)) ≡ false) (ap (λ (T : Table). opposite T X) q) (rw (a, b))
+
+pub free-piece : (s : Net) (e : Footing) (r : Entry) (X : Chan) → Gives s e X → opposite (s .table) (opposite (s .table) X) ≡ X
+    → latched-already s r (Through X) ≡ false → Piece s e [] (λ u. latched-already u r (Through X) ≡ false)
+free-piece s e r X v back =
+    subst⁻¹ (λ (q : ℕ → Entry → Bool). Free q X s → Piece s e [] (Free q X)) (λ i k. matches-its-name k r i) (free-by-name s e (r .transaction) X v back)
 
 -- ---- the matching C, found as the oldest of its name or, a read's, as the oldest of its name or P
 
@@ -225,35 +235,36 @@ and-not : (a b : Bool) → b ≡ false → (a && b) ≡ false
 and-not true b h = h
 and-not false b h = refl
 
-module _ (t : Transaction) where
+module _ (q : Entry → Bool) where
   -- neither 12 nor 14 holds of the opposite Y of N1
-  pub record Takes (s : Net) (Y : Chan) : Type 0 where
-    pub there : no-such-entry s C Y t ≡ false
-    pub in-turn : (not ((entry-at s C Y t) .write) && behind-a-P s C Y t) ≡ false
+  record Takes (s : Net) (Y : Chan) : Type 0 where
+    there : not (is-some (find q (waiting s Y))) ≡ false
+    in-turn : (not ((or-else zero-entry (find q (waiting s Y))) .write) && behind-P q (waiting s Y)) ≡ false
 
   -- it, and what is left to be said of it
-  pub record Taking (s : Net) (e : Footing) (Y : Chan) : Type 0 where
-    pub entry : Entry
-    pub named : is-named C t entry ≡ true
-    pub piece : Piece s e ((leaves C Y t, entry) ∷ []) (λ u. Takes u Y)
+  record Taking (s : Net) (e : Footing) (Y : Chan) : Type 0 where
+    entry : Entry
+    passes : q entry ≡ true
+    piece : Piece s e ((change Y q gone, entry) ∷ []) (λ u. Takes u Y)
 
+module _ (t : Transaction) where
   abbrev pub the-C : Chan → Name
   the-C Y = record { channel = Y; kind = C; transaction = t }
 
-  pub taking : (s : Net) (e : Footing) (Y : Chan) → Uses s e (the-C Y) → Takes s Y → Taking s e Y
-  taking s e Y v h =
+  taking-by-name : (s : Net) (e : Footing) (Y : Chan) → Uses s e (the-C Y) → Takes (is-named C t) s Y → Taking (is-named C t) s e Y
+  taking-by-name s e Y v h =
       let q = is-there (oldest C t (waiting s Y)) (not-false (stands C t (waiting s Y)) (h .there)) in
       split ((q .0) .write)
       (λ w. record {
         entry = q .0;
-        named = found-passes (is-named C t) (waiting s Y) (q .1);
+        passes = found-passes (is-named C t) (waiting s Y) (q .1);
         piece = so s e (found-piece C Y t s e (q .0) v (q .1)) (λ u _ k. record { there = rw k; in-turn = rw (k, w) });
       })
       (λ w.
       let r = not-behind C Y t s (h .there) (rw (q .1, w) at (h .in-turn)) in
       record {
         entry = r .0;
-        named = r .1 .named;
+        passes = r .1 .named;
         piece = so s e (named-piece C Y t s e gone (r .0) takes-out v (r .1))
             (λ u _ k. record {
               there = rw (k .found);
@@ -261,37 +272,40 @@ module _ (t : Transaction) where
             });
       })
 
+taking : (r : Entry) (s : Net) (e : Footing) (Y : Chan) → Uses s e (the-C (r .transaction) Y) → Takes (matches C r) s Y → Taking (matches C r) s e Y
+taking r s e Y v = subst⁻¹ (λ (q : Entry → Bool). Takes q s Y → Taking q s e Y) (matches-its-name C r) (taking-by-name (r .transaction) s e Y v)
+
 -- ---- the matching C is taken out of the opposite of N1, if N1 is a channel
 
-abbrev pub bringing-deeds : Table → NextPlace → Transaction → Entry → List Deed
-bringing-deeds T Target t c = []
-bringing-deeds T (Through X) t c = (leaves C (opposite T X) t, c) ∷ []
+abbrev pub bringing-deeds : Table → NextPlace → Entry → Entry → List Deed
+bringing-deeds T Target r c = []
+bringing-deeds T (Through X) r c = (change (opposite T X) (matches C r) gone, c) ∷ []
 
 -- neither 12 nor 14 holds
-pub record Brings (s : Net) (t : Transaction) (N1 : NextPlace) : Type 0 where
-  pub there : unanswered s t N1 ≡ false
-  pub in-turn : read-answer-behind-P s t N1 ≡ false
+pub record Brings (s : Net) (r : Entry) (N1 : NextPlace) : Type 0 where
+  pub there : unanswered s r N1 ≡ false
+  pub in-turn : read-answer-behind-P s r N1 ≡ false
 
-pub record Bringing (s : Net) (e : Footing) (t : Transaction) (N1 : NextPlace) : Type 0 where
+pub record Bringing (s : Net) (e : Footing) (r : Entry) (N1 : NextPlace) : Type 0 where
   pub entry : Entry
-  pub named : (X : Chan) → N1 ≡ Through X → is-named C t entry ≡ true
-  pub piece : Piece s e (bringing-deeds (s .table) N1 t entry) (λ u. Brings u t N1)
+  pub matched : (X : Chan) → N1 ≡ Through X → matches C r entry ≡ true
+  pub piece : Piece s e (bringing-deeds (s .table) N1 r entry) (λ u. Brings u r N1)
 
-pub bringing : (s : Net) (e : Footing) (t : Transaction) (N1 : NextPlace) → ((X : Chan) → N1 ≡ Through X → Uses s e (the-C t (opposite (s .table) X)))
-    → unanswered s t N1 ≡ false → read-answer-behind-P s t N1 ≡ false → Bringing s e t N1
-bringing s e t Target v h k = record {
+pub bringing : (s : Net) (e : Footing) (r : Entry) (N1 : NextPlace) → ((X : Chan) → N1 ≡ Through X → Uses s e (the-C (r .transaction) (opposite (s .table) X)))
+    → unanswered s r N1 ≡ false → read-answer-behind-P s r N1 ≡ false → Bringing s e r N1
+bringing s e r Target v h k = record {
   entry = zero-entry;
-  named = λ X q. let z : _≡_ {A = ℕ} 0 1 = cc in absurd (omega arith);
+  matched = λ X q. let z : _≡_ {A = ℕ} 0 1 = cc in absurd (omega arith);
   piece = so s e (no-piece s e) (λ u q _. record { there = refl; in-turn = refl });
 }
-bringing s e t (Through X) v h k =
-    let w = taking t s e (opposite (s .table) X) (v X refl) (record { there = h; in-turn = k }) in
+bringing s e r (Through X) v h k =
+    let w = taking r s e (opposite (s .table) X) (v X refl) (record { there = h; in-turn = k }) in
     record {
       entry = w .entry;
-      named = λ _ _. w .named;
+      matched = λ _ _. w .passes;
       piece = so s e (w .piece)
           (λ u q k.
-          let j = subst⁻¹ (λ (Y : Chan). Takes t u Y) (ap (λ (T : Table). opposite T X) q) k in
+          let j = subst⁻¹ (λ (Y : Chan). Takes (matches C r) u Y) (ap (λ (T : Table). opposite T X) q) k in
           record { there = j .there; in-turn = j .in-turn });
     }
 

@@ -8,7 +8,7 @@ use Rattle.chassis.specs.Channels.{out-bus, in-bus, opposite}
 use Rattle.chassis.specs.Routes.{component, loop-free, all-joined, one-way, way-over, next-place, on-the-way, opposes-the-way}
 use Rattle.chassis.specs.Answers.{table-answer}
 use Rattle.chassis.specs.Tables.{counts-in-range, unused-are-zero, buses-are-there, a-bridge-on-one-bus, table-grounds, table-passes, zero-table}
-use Rattle.queue.specs.Entries.{P, R, C, is-named, marked, as-kind, is-zero-entry}
+use Rattle.queue.specs.Entries.{P, R, C, is-named, matches, marked, as-kind, is-zero-entry}
 use Rattle.queue.specs.Queues.{behind-P, first-C}
 use Rattle.network.specs.declared.State.{State}
 use Rattle.network.specs.Rooms.{room-for, rooms}
@@ -184,5 +184,5 @@ rows =
 
 -- what each input gives, lines and end state, is what its row says
 pub marked-trials : map (λ r. run (r .input)) rows ≡ map outcome rows
-unfolding rows T one-bus no-bridge-at-all bridged-twice posted-twice posted-twice-lines padded joined with-check sealed T-with table-bytes network rec record-block placed table state-with run cut input-blocks blocks-played block-played tick-lines value-lines steps entries-left block-grounds content-grounds block-records record-bytes stray-behind-records stray-in-table table-of bridge-records kind-place-count-are-right all-zero check-is-right weighed tick judged tick-grounds records values-of end-of known first-pair partner first-refused conflict clash alike footing step step-grounds inner-step record-grounds after value effects new-entry grounds named-grounds begin-grounds decoded edits edit opened zero-state Soundness.sound Soundness.unused-are-zero Soundness.keeps-the-rules Soundness.fit Soundness.stands-right Soundness.within-limits Soundness.counts-fit empty-net pack view room-for rooms first-C behind-P is-zero-entry as-kind marked is-named zero-table table-passes table-grounds a-bridge-on-one-bus buses-are-there unused-are-zero counts-in-range on-the-way opposes-the-way table-answer next-place way-over one-way all-joined loop-free component opposite in-bus out-bus from-to parts modify all-from any all count alter find
+unfolding rows T one-bus no-bridge-at-all bridged-twice posted-twice posted-twice-lines padded joined with-check sealed T-with table-bytes network rec record-block placed table state-with run cut input-blocks blocks-played block-played tick-lines value-lines steps entries-left block-grounds content-grounds block-records record-bytes stray-behind-records stray-in-table table-of bridge-records kind-place-count-are-right all-zero check-is-right weighed tick judged tick-grounds records values-of end-of known first-pair partner first-refused conflict clash alike footing step step-grounds inner-step record-grounds after value effects new-entry grounds named-grounds begin-grounds decoded edits edit opened zero-state Soundness.sound Soundness.unused-are-zero Soundness.keeps-the-rules Soundness.fit Soundness.stands-right Soundness.within-limits Soundness.counts-fit empty-net pack view room-for rooms first-C behind-P is-zero-entry as-kind marked is-named matches zero-table table-passes table-grounds a-bridge-on-one-bus buses-are-there unused-are-zero counts-in-range on-the-way opposes-the-way table-answer next-place way-over one-way all-joined loop-free component opposite in-bus out-bus from-to parts modify all-from any all count alter find
 marked-trials = refl

@@ -11,8 +11,8 @@ use Rattle.queue.specs.declared.Channel.{Channel}
 use Rattle.queue.specs.declared.Found.{Found}
 use Rattle.queue.specs.declared.Found.the-variants as found
 use Rattle.queue.specs.declared.Change.{Change}
-use Rattle.queue.specs.declared.Change.the-variants.{Nothing, Add, TakeOut, Mark}
-use Rattle.queue.specs.Entries.{is-named, marked, zero-entry}
+use Rattle.queue.specs.declared.Change.the-variants.{Nothing, Add, TakeOut, TakeMatching, Mark}
+use Rattle.queue.specs.Entries.{C, is-named, matches, marked, zero-entry}
 use Rattle.queue.specs.Packing.{live}
 
 -- the first place from i on whose entry passes
@@ -23,6 +23,10 @@ place-from i p (x ∷ l) = cond (p x) (found.At i) (place-from (suc i) p l)
 -- where the oldest entry of that kind and transaction stands
 unfoldable pub place-of : ℕ → Transaction → Channel → Found
 place-of k t c = place-from 0 (is-named k t) (live c)
+
+-- where the oldest one of that kind that matches the request stands
+unfoldable pub place-of-matching : ℕ → Entry → Channel → Found
+place-of-matching k r c = place-from 0 (matches k r) (live c)
 
 -- behind all others; a channel with 24 entries stays as it is
 unfoldable pub added-to : Channel → Entry → Channel
@@ -43,4 +47,5 @@ unfoldable pub changed-to : Channel → Change → Channel
 changed-to c Nothing = c
 changed-to c (Add x) = added-to c x
 changed-to c (TakeOut x) = at-place (place-of (x .kind) (x .transaction) c) c (removed-at c)
+changed-to c (TakeMatching r) = at-place (place-of-matching C r c) c (removed-at c)
 changed-to c (Mark x) = at-place (place-of (x .kind) (x .transaction) c) c (marked-at c)

@@ -21,20 +21,20 @@ refused-plan-requires-2 c κs = search needs
 
 returns-2 : tie.Need-returns-2
 returns-2 c =
-    simp (c .refused-plan2 .ensures, sym (c .before .before .waits-for-p .ensures) ∙ c .before .if2 .taken, not-false (c .before .before .before .before .before .before .before .args .g .answer .found) (c .before .before .before .if1 .left))
+    simp (c .refused-plan2 .ensures, sym (c .before .before .waits-for-p .ensures) ∙ c .before .if2 .taken, not-false (c .before .before .before .before .before .before .args .g .answer .found) (c .before .before .before .if1 .left))
 
 opposite-requires : tie.Need-opposite-requires
 opposite-requires c κs = search needs
 
-takes-out-requires : tie.Need-takes-out-requires
-takes-out-requires c κs = search needs
+takes-matching-requires : tie.Need-takes-matching-requires
+takes-matching-requires c κs = search needs
 
 judge-answer-requires : tie.Need-judge-answer-requires
 judge-answer-requires c κs = search needs
 
 returns-3 : tie.Need-returns-3
 returns-3 c =
-    simp (c .judge-answer .ensures, c .before .takes-out .ensures, c .before .before .opposite .ensures, sym (c .before .before .before .before .waits-for-p .ensures) ∙ c .before .before .before .if2 .left, not-false (c .before .before .before .before .before .before .before .before .before .args .g .answer .found) (c .before .before .before .before .before .if1 .left))
+    simp (c .judge-answer .ensures, c .before .takes-matching .ensures, c .before .before .opposite .ensures, sym (c .before .before .before .before .waits-for-p .ensures) ∙ c .before .before .before .if2 .left, not-false (c .before .before .before .before .before .before .before .before .args .g .answer .found) (c .before .before .before .before .before .if1 .left))
 
 pub judge-complete-on-spec : {M : Type 1} → statement M
 judge-complete-on-spec =
@@ -46,6 +46,6 @@ judge-complete-on-spec =
     refused-plan-requires-2
     returns-2
     opposite-requires
-    takes-out-requires
+    takes-matching-requires
     judge-answer-requires
     returns-3)

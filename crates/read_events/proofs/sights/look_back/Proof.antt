@@ -13,15 +13,15 @@ dull-requires c κs = search needs
 enum-told-2 : tie.Need-enum-told-2
 enum-told-2 c = search needs
 
-looked-requires : tie.Need-looked-requires
-looked-requires c κs = search needs
+matching-requires : tie.Need-matching-requires
+matching-requires c κs = search needs
 
 returns : tie.Need-returns
 returns c = search needs
 
 returns-2 : tie.Need-returns-2
-returns-2 c = rw (c .before .enum-told2 .given .1) (c .looked .ensures)
+returns-2 c = rw (c .before .enum-told2 .given .1) (c .matching .ensures)
 
 pub look-back-spec : {M : Type 1} → statement M
 look-back-spec =
-    tie.close (tie.spec enum-told dull-requires enum-told-2 looked-requires returns returns-2)
+    tie.close (tie.spec enum-told dull-requires enum-told-2 matching-requires returns returns-2)

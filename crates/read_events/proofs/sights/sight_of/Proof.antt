@@ -46,26 +46,26 @@ full-ahead-requires c κs = search needs
 sees-full-requires-5 : tie.Need-sees-full-requires-5
 sees-full-requires-5 c κs = search needs
 
-enum-known-e : tie.Need-enum-known-e
-enum-known-e c = search needs
+enum-told-6 : tie.Need-enum-told-6
+enum-told-6 c = search needs
 
 sight-latch-requires : tie.Need-sight-latch-requires
 sight-latch-requires c κs = search needs
 
-enum-known-e-2 : tie.Need-enum-known-e-2
-enum-known-e-2 c = search needs
+enum-known-e : tie.Need-enum-known-e
+enum-known-e c = search needs
 
 sight-complete-requires : tie.Need-sight-complete-requires
 sight-complete-requires c κs = search needs
 
-enum-told-6 : tie.Need-enum-told-6
-enum-told-6 c = search needs
+enum-told-7 : tie.Need-enum-told-7
+enum-told-7 c = search needs
 
 sees-full-requires-6 : tie.Need-sees-full-requires-6
 sees-full-requires-6 c κs = search needs
 
-enum-known-e-3 : tie.Need-enum-known-e-3
-enum-known-e-3 c = search needs
+enum-known-e-2 : tie.Need-enum-known-e-2
+enum-known-e-2 c = search needs
 
 sight-drop-requires : tie.Need-sight-drop-requires
 sight-drop-requires c κs = search needs
@@ -86,16 +86,16 @@ returns-5 : tie.Need-returns-5
 returns-5 c = rw (c .before .before .enum-told5 .given .1, ← c .before .full-ahead .ensures) (c .sees-full5 .ensures)
 
 returns-6 : tie.Need-returns-6
-returns-6 c = rw (c .before .before .e .given .1) (c .sight-latch .ensures)
+returns-6 c = rw (c .before .enum-told6 .given .1) (c .sight-latch .ensures)
 
 returns-7 : tie.Need-returns-7
-returns-7 c = rw (c .before .before .e2 .given .1) (c .sight-complete .ensures)
+returns-7 c = rw (c .before .before .e .given .1) (c .sight-complete .ensures)
 
 returns-8 : tie.Need-returns-8
-returns-8 c = rw (c .before .enum-told6 .given .1) (c .sees-full6 .ensures)
+returns-8 c = rw (c .before .enum-told7 .given .1) (c .sees-full6 .ensures)
 
 returns-9 : tie.Need-returns-9
-returns-9 c = rw (c .before .before .e3 .given .1) (c .sight-drop .ensures)
+returns-9 c = rw (c .before .before .e2 .given .1) (c .sight-drop .ensures)
 
 pub sight-of-spec : {M : Type 1} → statement M
 sight-of-spec =
@@ -115,13 +115,13 @@ sight-of-spec =
     enum-told-5
     full-ahead-requires
     sees-full-requires-5
-    enum-known-e
-    sight-latch-requires
-    enum-known-e-2
-    sight-complete-requires
     enum-told-6
+    sight-latch-requires
+    enum-known-e
+    sight-complete-requires
+    enum-told-7
     sees-full-requires-6
-    enum-known-e-3
+    enum-known-e-2
     sight-drop-requires
     returns
     returns-2
