@@ -24,6 +24,7 @@ use Rattle.queue.specs.declared.Transaction.{Transaction}
 use Rattle.queue.specs.declared.Entry.{Entry}
 use Rattle.queue.specs.Entries.{P, R, C, is-named, marked, as-kind, gone, marking}
 use Rattle.queue.proofs.Names.{named-of, own-gone, own-marking}
+use Rattle.queue.proofs.Matching.{matches-its-name}
 use Rattle.network.specs.Nets.{Net}
 use Rattle.network.specs.Edits.{Edit, add, change, raise, edit, edits}
 use Rattle.network.proofs.Good.{Good}
@@ -160,10 +161,21 @@ module _ (s : Net) (g : Good s) (t : Transaction) (a : Agent) (write : Bool) (ha
   unfolding effects
   latch-effects N N1 y p q = λ i. is-marked N t ∷ enters (p i) (as-kind R (q i))
 
-  complete-effects : (N : Chan) (N1 : NextPlace) (y : Entry) → ahead s R N t ≡ N1 → entry-at s R N t ≡ y
-      → effects s (Complete N t) ≡ leaves R N t ∷ (answer-taken T N1 t ++ answer-given T N y)
+  -- the C that matches its R is its own
+  abbrev own-taken : NextPlace → List Edit
+  own-taken Target = []
+  own-taken (Through X) = leaves C (opposite T X) t ∷ []
+
+  taken-is-own : (N1 : NextPlace) (b : Bool) → answer-taken T N1 (x R b) ≡ own-taken N1
+  taken-is-own Target b = refl
+  taken-is-own (Through X) b = ap (λ (q : Entry → Bool). change (opposite T X) q gone ∷ []) (matches-its-name C (x R b))
+
+  complete-effects : (N : Chan) (N1 : NextPlace) (b : Bool) → ahead s R N t ≡ N1 → entry-at s R N t ≡ x R b
+      → effects s (Complete N t) ≡ leaves R N t ∷ (own-taken N1 ++ answer-given T N (x R b))
   unfolding effects
-  complete-effects N N1 y p q = λ i. leaves R N t ∷ (answer-taken T (p i) t ++ answer-given T N (q i))
+  complete-effects N N1 b p q =
+      (λ i. leaves R N t ∷ (answer-taken T (p i) (q i) ++ answer-given T N (q i)))
+      ∙ ap (λ (ds : List Edit). leaves R N t ∷ (ds ++ answer-given T N (x R b))) (taken-is-own N1 b)
 
   leaves-P : (i : ℕ) → At T t a write s (posted i) → Shows (edit (leaves P (nth w i) t) s) t []
   unfolding pieces
@@ -194,7 +206,7 @@ module _ (s : Net) (g : Good s) (t : Transaction) (a : Agent) (write : Bool) (ha
   pub complete-last : (b : Bool) → entry-at s R (nth w k) t ≡ x R b → At T t a write s (asked k b) → At T t a write (after s (Complete (nth w k) t)) (completed k)
   unfolding pieces after edits
   complete-last b e h =
-      subst⁻¹ (λ (ds : List Edit). Shows (edits ds s) t (pieces T w x (completed k))) (complete-effects (nth w k) Target (x R b) (ahead-last R b e) e)
+      subst⁻¹ (λ (ds : List Edit). Shows (edits ds s) t (pieces T w x (completed k))) (complete-effects (nth w k) Target b (ahead-last R b e) e)
       (given (edit (leaves R (nth w k) t) s) (edit-long (leaves R (nth w k) t) s) k (le-refl k) b
       (subst (Shows (edit (leaves R (nth w k) t) s) t) (append-nil (requests w x k)) (loses-last s k (le-refl k) b [] h)))
 
@@ -206,6 +218,6 @@ module _ (s : Net) (g : Good s) (t : Transaction) (a : Agent) (write : Bool) (ha
       let L = requests w x j ++ (piece (nth w j) (x R true) ∷ (piece Z (x C false) ∷ [])) in
       let q : requests w x (suc j) ++ (piece Z (x C false) ∷ []) ≡ L =
       ap (_++ (piece Z (x C false) ∷ [])) (requests-suc w x j (longer j (omega arith))) ∙ append-assoc (requests w x j) (piece (nth w j) (x R true) ∷ []) (piece Z (x C false) ∷ []) in
-      subst⁻¹ (λ (ds : List Edit). Shows (edits ds s) t (pieces T w x (completed j))) (complete-effects (nth w j) (Through (nth w (suc j))) (x R true) (ahead-on j l R true e) e)
+      subst⁻¹ (λ (ds : List Edit). Shows (edits ds s) t (pieces T w x (completed j))) (complete-effects (nth w j) (Through (nth w (suc j))) true (ahead-on j l R true e) e)
       (given (edit (leaves C Z t) u) (edit-long (leaves C Z t) u ∙ edit-long (leaves R (nth w j) t) s) j (omega arith) true
       (loses-C u j Z (loses-last s j (omega arith) true (piece Z (x C false) ∷ []) (subst (Shows s t) q h))))

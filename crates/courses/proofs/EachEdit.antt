@@ -1,7 +1,7 @@
 -- Every edit of an accepted event is of its own transaction's entries, or raises the count of a begin's master; so what a test of entries shuts out of its
 -- transaction stays as it is in every channel, and no other count changes. One law over what is asked of the edits serves both.
 use Prim.Native.Nat.{ℕ}
-use mathlib.Core.Path.{_≡_, refl, subst⁻¹, _∙_}
+use mathlib.Core.Path.{_≡_, refl, ap, subst⁻¹, _∙_}
 use mathlib.Core.Bool.{Bool, true, false, cond}
 use mathlib.Core.Logic.{_⊎_, inl, inr}
 use mathlib.Core.Option.{Option}
@@ -22,9 +22,10 @@ use Rattle.chassis.specs.declared.NextPlace.the-variants.{Target, Through}
 use Rattle.chassis.specs.Channels.{is-master, master-channel, opposite}
 use Rattle.queue.specs.declared.Transaction.{Transaction}
 use Rattle.queue.specs.declared.Entry.{Entry}
-use Rattle.queue.specs.Entries.{P, R, C, is-named, as-kind, marked, zero-entry}
+use Rattle.queue.specs.Entries.{P, R, C, is-named, as-kind, marked, zero-entry, gone}
 use Rattle.queue.specs.Queues.{stands, oldest}
 use Rattle.queue.proofs.Plainly.{named-is-its-own}
+use Rattle.queue.proofs.Matching.{matches-its-name}
 use Rattle.network.specs.Nets.{Net, waiting}
 use Rattle.network.specs.Edits.{Edit, add, change, raise, edit, edits}
 use Rattle.events.specs.declared.Event.{Event}
@@ -54,9 +55,11 @@ module _ (F : Edit → Type 0) (s : Net) where
     each-enters Target x e = tt
     each-enters (Through X) x e = (f .entering X x e, tt)
 
-    each-taken : (T : Table) (N1 : NextPlace) → All F (answer-taken T N1 t)
-    each-taken T Target = tt
-    each-taken T (Through X) = (f .leaving C (opposite T X), tt)
+    -- what matches the request has the request's name
+    each-taken : (T : Table) (N1 : NextPlace) (x : Entry) → x .transaction ≡ t → All F (answer-taken T N1 x)
+    each-taken T Target x e = tt
+    each-taken T (Through X) x e =
+        (subst⁻¹ (λ (q : Entry → Bool). F (change (opposite T X) q gone)) (matches-its-name C x ∙ ap (is-named C) e) (f .leaving C (opposite T X)), tt)
 
     each-given : (master : Bool) (N : Chan) (x : Entry) → x .transaction ≡ t → All F (cond master [] (add N x ∷ []))
     each-given true N x e = tt
@@ -74,8 +77,8 @@ module _ (F : Edit → Type 0) (s : Net) where
       (f .marking N, each-enters t f (ahead s R N t) (as-kind R (entry-at s R N t)) (entry-named s R N t (clear (grounds s (Latch N t)) ok .1 .0)))
   each-edit (Complete N t) ok f r = (
     f .leaving R N,
-    all-append F (answer-taken (s .table) (ahead s R N t) t) (answer-given (s .table) N (entry-at s R N t))
-        (each-taken t f (s .table) (ahead s R N t))
+    all-append F (answer-taken (s .table) (ahead s R N t) (entry-at s R N t)) (answer-given (s .table) N (entry-at s R N t))
+        (each-taken t f (s .table) (ahead s R N t) (entry-at s R N t) (entry-named s R N t (clear (grounds s (Complete N t)) ok .1 .0)))
         (each-given t f (is-master (s .table) N) (opposite (s .table) N) (as-kind C (entry-at s R N t)) (entry-named s R N t (clear (grounds s (Complete N t)) ok .1 .0))),
   )
   each-edit (DropRequest N t) ok f r = (f .leaving R N, tt)

@@ -3,7 +3,8 @@
 use Prim.Native.Nat.{ℕ, zero, suc, _≤_, _<_}
 use native.Mathlib.Omega.{arith}
 use mathlib.Core.Path.{_≡_, refl, sym, ap, subst, subst⁻¹, _∙_}
-use mathlib.Core.Bool.{Bool, true, false, not, _&&_}
+use mathlib.Core.Bool.{Bool, true, false, not, _&&_, _||_}
+use Rattle.base.specs.Lists.{find, is-some}
 use mathlib.Core.Logic.{_⊎_, inl, inr, ⊎-elim}
 use mathlib.Core.List.{List}
 use borrow.Author.Tests.{not-false}
@@ -20,11 +21,11 @@ use Rattle.queue.specs.declared.Transaction.{Transaction}
 use Rattle.queue.specs.declared.Entry.{Entry}
 use Rattle.queue.specs.Entries.{P, R, C}
 use Rattle.queue.specs.Queues.{stands}
+use Rattle.queue.proofs.Matching.{matches-its-name}
 use Rattle.network.specs.Nets.{Net, waiting}
 use Rattle.network.proofs.Good.{Good}
 use Rattle.events.specs.declared.Event.{Event}
 use Rattle.events.specs.declared.Event.the-variants.{Commit, Post, Latch, Complete, DropRequest, DropCompletion}
-use Rattle.events.specs.Tests as tests
 use Rattle.events.specs.Tests.{entry-at, ahead, is-target, no-such-entry, is-committed, latched-already, unanswered}
 use Rattle.events.specs.Grounds.{named-grounds, grounds, Accepted}
 use Rattle.events.specs.Effects.{after}
@@ -116,14 +117,20 @@ module _ (s : Net) (g : Good s) (t : Transaction) (a : Agent) (write : Bool) (ha
 
   -- latch
 
-  not-latched : {A : Type 0} (N : Chan) (i : ℕ) → i < k → N ≡ nth w i → (b : Bool) → entry-at s R N t ≡ x R b → latched-already s t (ahead s R N t) ≡ false
-      → (stands R t (waiting s (nth w (suc i))) ≡ true) ⊎ (tests.answered s t (nth w (suc i)) ≡ true) → A
+  -- what matches its R has its name
+  already-by-name : (X : Chan) (b : Bool) → latched-already s (x R b) (Through X) ≡ (stands R t (waiting s X) || stands C t (waiting s (opposite T X)))
+  already-by-name X b i = is-some (find (matches-its-name R (x R b) i) (waiting s X)) || is-some (find (matches-its-name C (x R b) i) (waiting s (opposite T X)))
+
+  not-latched : {A : Type 0} (N : Chan) (i : ℕ) → i < k → N ≡ nth w i → (b : Bool) → entry-at s R N t ≡ x R b → latched-already s (entry-at s R N t) (ahead s R N t) ≡ false
+      → (stands R t (waiting s (nth w (suc i))) ≡ true) ⊎ (stands C t (waiting s (opposite T (nth w (suc i)))) ≡ true) → A
   not-latched N i l e b y h z =
       let p : ahead s R N t ≡ Through (nth w (suc i)) = ap (λ (M : Chan). ahead s R M t) e ∙ ahead-on s g t a write has i l R b (at-nth R N i e y) in
-      let q = or-false (stands R t (waiting s (nth w (suc i)))) (tests.answered s t (nth w (suc i))) (sym (ap (latched-already s t) p) ∙ h) in
-      absurd (⊎-elim (λ z. both (stands R t (waiting s (nth w (suc i)))) z (q .0)) (λ z. both (tests.answered s t (nth w (suc i))) z (q .1)) z)
+      let X = nth w (suc i) in
+      let c : latched-already s (x R b) (Through X) ≡ latched-already s (entry-at s R N t) (ahead s R N t) = λ i. latched-already s (sym y i) (sym p i) in
+      let q = or-false (stands R t (waiting s X)) (stands C t (waiting s (opposite T X))) (sym (already-by-name X b) ∙ c ∙ h) in
+      absurd (⊎-elim (λ z. both (stands R t (waiting s X)) z (q .0)) (λ z. both (stands C t (waiting s (opposite T X))) z (q .1)) z)
 
-  latch-by : (N : Chan) (h : Stage) → At T t a write s h → Fits k h → is-target (ahead s R N t) ≡ false → latched-already s t (ahead s R N t) ≡ false → AtR s t a write N h → Moved s t a write (Latch N t) h
+  latch-by : (N : Chan) (h : Stage) → At T t a write s h → Fits k h → is-target (ahead s R N t) ≡ false → latched-already s (entry-at s R N t) (ahead s R N t) ≡ false → AtR s t a write N h → Moved s t a write (Latch N t) h
   latch-by N _ o f d c (last j b e y) =
       ⊎-elim
       (λ l. to-asked (Latch N t) (asked j b) (suc j) false l
@@ -138,22 +145,24 @@ module _ (s : Net) (g : Good s) (t : Transaction) (a : Agent) (write : Bool) (ha
   latch-by N _ o f d c (behind j i l e y) =
       not-latched N i (omega arith) e true y c
       (⊎-elim (λ h. inl (answered-stands s t a write j (suc i) o h f))
-      (λ q. inr (subst⁻¹ (λ (i : ℕ). tests.answered s t (nth w (suc i)) ≡ true) q (answer-stands s t a write j o)))
+      (λ q. inr (subst⁻¹ (λ (i : ℕ). stands C t (waiting s (opposite T (nth w (suc i)))) ≡ true) q (answer-stands s t a write j o)))
       (less-or-same i j l))
 
   -- complete
 
   -- the matching C
-  matching : (N : Chan) (i : ℕ) → i < k → N ≡ nth w i → (b : Bool) → entry-at s R N t ≡ x R b → unanswered s t (ahead s R N t) ≡ false
+  matching : (N : Chan) (i : ℕ) → i < k → N ≡ nth w i → (b : Bool) → entry-at s R N t ≡ x R b → unanswered s (entry-at s R N t) (ahead s R N t) ≡ false
       → no-such-entry s C (opposite T (nth w (suc i))) t ≡ false
   matching N i l e b y h =
       let p : ahead s R N t ≡ Through (nth w (suc i)) = ap (λ (M : Chan). ahead s R M t) e ∙ ahead-on s g t a write has i l R b (at-nth R N i e y) in
-      sym (ap (unanswered s t) p) ∙ h
+      let Z = opposite T (nth w (suc i)) in
+      let c : unanswered s (x R b) (Through (nth w (suc i))) ≡ unanswered s (entry-at s R N t) (ahead s R N t) = λ i. unanswered s (sym y i) (sym p i) in
+      sym (ap (λ (q : Entry → Bool). not (is-some (find q (waiting s Z)))) (matches-its-name C (x R b))) ∙ c ∙ h
 
   the-one : (j : ℕ) (Z : Chan) → AtC s t a write Z (answered j) → Z ≡ opposite T (nth w (suc j))
   the-one j Z (back _ e) = e
 
-  complete-by : (N : Chan) (h : Stage) → At T t a write s h → Fits k h → unanswered s t (ahead s R N t) ≡ false → AtR s t a write N h → Moved s t a write (Complete N t) h
+  complete-by : (N : Chan) (h : Stage) → At T t a write s h → Fits k h → unanswered s (entry-at s R N t) (ahead s R N t) ≡ false → AtR s t a write N h → Moved s t a write (Complete N t) h
   complete-by N _ o f c (last j b e y) =
       ⊎-elim
       (λ l. elim (at-C s t a write (opposite T (nth w (suc j))) (asked j b) o (matching N j l e b y c)) [ ])

@@ -11,7 +11,7 @@ use Rattle.chassis.specs.Routes.{component, loop-free, all-joined, one-way, way
 use Rattle.chassis.specs.Tables.{counts-in-range, unused-are-zero, buses-are-there, a-bridge-on-one-bus, table-grounds, table-passes}
 use Rattle.queue.specs.declared.Transaction.{Transaction}
 use Rattle.queue.specs.declared.Entry.{Entry}
-use Rattle.queue.specs.Entries.{is-of, is-named, marked, as-kind}
+use Rattle.queue.specs.Entries.{is-of, is-named, matches, marked, as-kind}
 use Rattle.queue.specs.Queues.{behind-P, first-C}
 use Rattle.network.specs.Nets.{Net, empty-net, waiting}
 use Rattle.network.specs.Rooms.{room-for, rooms}
@@ -61,7 +61,7 @@ unfolding T-with table-passes table-grounds counts-in-range unused-are-zero buse
 T-passes = refl
 
 pub it-is-reached : Reached s₇
-unfolding T-with empty-net after effects edits edit grounds begin-grounds named-grounds new-entry next-place way-over component out-bus opposite find alter count modify is-named marked as-kind behind-P first-C room-for rooms
+unfolding T-with empty-net after effects edits edit grounds begin-grounds named-grounds new-entry next-place way-over component out-bus opposite find alter count modify is-named matches marked as-kind behind-P first-C room-for rooms
 it-is-reached =
     and-then s₆ (Complete (chan 0) read)
     (and-then s₅ (Complete (chan 2) read)
@@ -80,5 +80,5 @@ says h = map (λ N. held-in N (standing T read (course (agent 1) false h))) (cha
 
 pub its-stages : (waits s₁ ≡ says unbegun) × (waits s₂ ≡ says (asked 0 false)) × (waits s₃ ≡ says (asked 0 false)) × (waits s₄ ≡ says (asked 1 false))
     × (waits s₅ ≡ says (asked 1 false)) × (waits s₆ ≡ says (answered 0)) × (waits s₇ ≡ says ended)
-unfolding T-with only held-in pieces empty-net after effects edits edit new-entry next-place way-over component out-bus opposite find alter count modify is-named marked as-kind
+unfolding T-with only held-in pieces empty-net after effects edits edit new-entry next-place way-over component out-bus opposite find alter count modify is-named matches marked as-kind
 its-stages = (refl, refl, refl, refl, refl, refl, refl)
