@@ -17,6 +17,7 @@ use Rattle.chassis.specs.declared.Table.{Table}
 use Rattle.chassis.specs.Tables.{table-grounds}
 use Rattle.chassis.specs.Answers as table
 use Rattle.chassis.specs.Answers.{table-answer}
+use Rattle.chassis.specs.Capacities.{most-records}
 use Rattle.blocks.specs.declared.BlockAnswer.{BlockAnswer}
 use Rattle.blocks.specs.declared.BlockAnswer.the-variants.{Refused, Network, Steps, Tick}
 use Rattle.blocks.specs.Blocks.{block-kind, block-place, record-count, kind-place-count-are-right, block-grounds, record-bytes}
@@ -58,16 +59,16 @@ module _ (place : ℕ) (b : List ℕ) where
     unfolding block-grounds
     frame-is-right = not-false _ (clear (block-grounds place b) h .1 .1 .0)
 
-    pub accepted-count : record-count b ≤ 63
+    pub accepted-count : record-count b ≤ most-records
     unfolding kind-place-count-are-right
     accepted-count =
         let r = and-true (eqb (block-place b) place) _ frame-is-right .1 in
         split (eqb (block-kind b) 1)
         (λ t. omega (arith, eqb-true (record-count b) 0 (and-true (eqb place 0) _ (rw t at r) .1)))
-        (λ f. leb-true (record-count b) 63 (and-true ((eqb (block-kind b) 2 || eqb (block-kind b) 3) && not (eqb place 0)) _ (rw f at r) .1))
+        (λ f. leb-true (record-count b) most-records (and-true ((eqb (block-kind b) 2 || eqb (block-kind b) 3) && not (eqb place 0)) _ (rw f at r) .1))
 
 -- so the record bytes are whole records
-pub length-record-bytes : (b : List ℕ) → length b ≡ 512 → record-count b ≤ 63 → length (record-bytes b) ≡ 8 * record-count b
+pub length-record-bytes : (b : List ℕ) → length b ≡ 512 → record-count b ≤ most-records → length (record-bytes b) ≡ 8 * record-count b
 unfolding record-bytes
 length-record-bytes b h k = rw (length-take, length-drop) (omega arith)
 

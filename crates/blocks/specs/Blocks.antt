@@ -12,6 +12,7 @@ use Rattle.chassis.specs.declared.Bridge.{Bridge}
 use Rattle.chassis.specs.declared.Table.{Table}
 use Rattle.chassis.specs.Numbers.{bus}
 use Rattle.chassis.specs.Tables.{table-grounds}
+use Rattle.chassis.specs.Capacities.{most-records}
 
 -- byte i
 abbrev pub byte : List ℕ → ℕ → ℕ
@@ -52,7 +53,7 @@ kind-place-count-are-right place b =
     eqb (block-place b) place
     && cond (eqb (block-kind b) 1)
     (eqb place 0 && eqb (record-count b) 0)
-    ((eqb (block-kind b) 2 || eqb (block-kind b) 3) && not (eqb place 0) && leb (record-count b) 63)
+    ((eqb (block-kind b) 2 || eqb (block-kind b) 3) && not (eqb place 0) && leb (record-count b) most-records)
 
 -- pairs of bytes as bridge records
 unfoldable pub bridge-records : List ℕ → List Bridge

@@ -2,6 +2,8 @@
 use crate::BlockAnswer;
 use chassis::Bridge;
 use chassis::Bus;
+use chassis::MOST_AGENTS;
+use chassis::MOST_RECORDS_U8;
 use chassis::Table;
 use chassis::TableAnswer;
 use check_tables::tables::table_answer;
@@ -13,6 +15,7 @@ ghost use lib.ListN.{length, take, drop, getD};
 ghost use lib.Seq.{slice};
 ghost use lib.Dec.{eqb};
 ghost use Rattle.chassis.specs.Numbers.{bus};
+ghost use Rattle.chassis.specs.Capacities.{most-records};
 ghost use Rattle.blocks.specs.Blocks.{two-bytes, four-bytes, weighed, check-is-right, all-zero, bridge-records, table-of, kind-place-count-are-right, stray-in-table, stray-behind-records, record-count, record-bytes};
 ghost use Rattle.blocks.specs.Answers.{accepted-as, network-by, content-answer, block-answer};
 
@@ -118,13 +121,13 @@ fn bridges_of(b: &[u8]) -> [Bridge; 15]
     pairs
 }
 
-fn homes_of(b: &[u8]) -> [Bus; 32]
+fn homes_of(b: &[u8]) -> [Bus; MOST_AGENTS]
     requires { ⌜ length (now b) ≡ 512 ⌝ }
     ensures { λ r. ⌜ r ≡ map bus (slice 48 80 (now (b .entry))) ⌝ }
 {
-    let mut homes = [Bus(0); 32];
+    let mut homes = [Bus(0); MOST_AGENTS];
     let mut i: usize = 0;
-    while i < 32 {
+    while i < MOST_AGENTS {
         homes[i] = Bus(b[48 + i]);
         i += 1;
     }
@@ -150,7 +153,7 @@ pub fn table_of(b: &[u8]) -> Table
 
 // "The records of a block begin at its byte 4."
 pub fn record_bytes(b: &[u8]) -> &[u8]
-    requires { ⌜ (length (now b) ≡ 512) × (record-count (now b) ≤ 63) ⌝ }
+    requires { ⌜ (length (now b) ≡ 512) × (record-count (now b) ≤ most-records) ⌝ }
     ensures { λ r. ⌜ now r ≡ record-bytes (now (b .entry)) ⌝ }
 {
     let count = b[1] as usize;
@@ -187,7 +190,7 @@ fn kind_place_count_are_right(place: u32, b: &[u8]) -> bool
     if place == 0 {
         return false;
     }
-    b[1] <= 63
+    b[1] <= MOST_RECORDS_U8
 }
 
 fn accepted_as(b: &[u8]) -> BlockAnswer

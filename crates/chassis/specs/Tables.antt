@@ -13,6 +13,7 @@ use Rattle.chassis.specs.declared.Table.{Table}
 use Rattle.chassis.specs.Numbers.{bus, same-bus}
 use Rattle.chassis.specs.Channels.{no-bridge, has-bus}
 use Rattle.chassis.specs.Routes.{one-way}
+use Rattle.chassis.specs.Capacities.{most-agents}
 
 abbrev pub within : ℕ → ℕ → ℕ → Bool
 within low high n = leb low n && leb n high
@@ -34,7 +35,7 @@ unfoldable pub counts-in-range : Table → Bool
 counts-in-range T =
     within 1 16 (T .buses)
     && within 0 15 (T .bridges)
-    && within 1 32 (T .agents)
+    && within 1 most-agents (T .agents)
     && all (within 1 8) (T .limits)
 
 unfoldable pub unused-are-zero : Table → Bool
@@ -78,5 +79,5 @@ zero-table = record {
   agents = 0;
   limits = replicate 3 0;
   pairs = replicate 15 no-bridge;
-  homes = replicate 32 (bus 0);
+  homes = replicate most-agents (bus 0);
 }

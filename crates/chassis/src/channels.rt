@@ -5,6 +5,7 @@ ghost use mathlib.Core.Bool.{true};
 ghost use Prim.Native.Nat.{_<_};
 ghost use Rattle.chassis.specs.Channels.{has-agent, has-chan, is-master, goes-forth, home, out-bus, opposite};
 ghost use Rattle.chassis.specs.Tables.{table-passes};
+ghost use Rattle.chassis.specs.Capacities.{most-agents};
 use crate::Agent;
 use crate::Bus;
 use crate::Chan;
@@ -29,7 +30,7 @@ pub fn is_master(t: Table, n: Chan) -> bool
 }
 
 pub fn home(t: Table, a: Agent) -> Bus
-    requires { ⌜ a .0 < 32 ⌝ }
+    requires { ⌜ a .0 < most-agents ⌝ }
     ensures { λ r. ⌜ r ≡ home t a ⌝ }
 {
     let i = a.0 as usize;

@@ -2,6 +2,22 @@
 
 pub mod channels; // channels.rt: channels and their buses
 
+// How much there may be: agents; channels, one for each agent and two for each of 15 bridges; records of one list, and their bytes.
+pub const MOST_AGENTS: usize = 32;
+
+pub const MOST_CHANNELS: usize = 62;
+
+pub const MOST_RECORDS: usize = 63;
+
+pub const MOST_RECORD_BYTES: usize = 8 * MOST_RECORDS;
+
+// The same where they are held against a byte.
+pub const MOST_AGENTS_U8: u8 = MOST_AGENTS as u8;
+
+pub const MOST_CHANNELS_U8: u8 = MOST_CHANNELS as u8;
+
+pub const MOST_RECORDS_U8: u8 = MOST_RECORDS as u8;
+
 // Agent numbers, bus numbers and channel numbers are kept apart throughout: one type each.
 pub struct Agent(pub u8);
 
@@ -22,7 +38,7 @@ pub struct Table {
     pub agents: u8,
     pub limits: [u8; 3],
     pub pairs: [Bridge; 15],
-    pub homes: [Bus; 32],
+    pub homes: [Bus; MOST_AGENTS],
 }
 
 // The next place on a way: the target itself, or a bridge channel.

@@ -14,6 +14,8 @@ use crate::labels::ladder;
 use crate::labels::share_label;
 use chassis::Bridge;
 use chassis::Bus;
+use chassis::MOST_AGENTS;
+use chassis::MOST_AGENTS_U8;
 use chassis::Table;
 use chassis::TableAnswer;
 
@@ -48,7 +50,7 @@ fn counts_in_range(t: Table) -> bool
     if !within(0, 15, t.bridges) {
         return false;
     }
-    if !within(1, 32, t.agents) {
+    if !within(1, MOST_AGENTS_U8, t.agents) {
         return false;
     }
     let limits = t.limits;
@@ -87,7 +89,7 @@ fn unused_homes_are_zero(t: Table) -> bool
     ensures { λ r. ⌜ r ≡ all is-zero-bus (drop (t .agents) (t .homes)) ⌝ }
 {
     let mut i = t.agents as usize;
-    while i < 32 {
+    while i < MOST_AGENTS {
         if !is_zero_bus(t.homes[i]) {
             return false;
         }

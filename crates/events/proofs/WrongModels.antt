@@ -13,6 +13,7 @@ use Rattle.chassis.specs.Numbers.{bus}
 use Rattle.chassis.specs.Channels.{no-bridge, out-bus, in-bus, opposite}
 use Rattle.chassis.specs.Routes.{component, loop-free, all-joined, one-way, way-over, next-place, on-the-way, opposes-the-way}
 use Rattle.chassis.specs.Tables.{counts-in-range, unused-are-zero, buses-are-there, a-bridge-on-one-bus, table-grounds, table-passes}
+use Rattle.chassis.specs.Capacities.{most-agents}
 use Rattle.queue.specs.Entries.{is-named, marked, as-kind, is-zero-entry}
 use Rattle.queue.specs.Queues.{behind-P, first-C}
 use Rattle.network.specs.declared.State.{State}
@@ -52,7 +53,7 @@ one-bus = record {
   agents = 2;
   limits = 1 ∷ 1 ∷ 1 ∷ [];
   pairs = replicate 15 no-bridge;
-  homes = replicate 32 (bus 0);
+  homes = replicate most-agents (bus 0);
 }
 
 unfoldable pub at-rest : State

@@ -9,6 +9,7 @@ use borrow.Author.Tests.{ltb-true, ltb-false, lt-ltb}
 use Rattle.base.specs.Lists.{all}
 use Rattle.base.proofs.Logic.{split, and-true}
 use Rattle.base.proofs.Lists.{all-take}
+use Rattle.chassis.specs.Capacities.{most-agents}
 use Rattle.chassis.specs.declared.Agent.{Agent}
 use Rattle.chassis.specs.declared.Bus.{Bus}
 use Rattle.chassis.specs.declared.Chan.{Chan}
@@ -33,7 +34,7 @@ module _ (T : Table) (ok : table-passes T ≡ true) where
   pub in-range : InRange T
   in-range = record { counts = passed T ok .counts; buses = passed T ok .buses }
 
-  pub agent-low : (a : Agent) → has-agent T a ≡ true → a .0 < 32
+  pub agent-low : (a : Agent) → has-agent T a ≡ true → a .0 < most-agents
   agent-low a h = omega (arith, ltb-true (a .0) (T .agents) h, few T ok)
 
   pub home-there : (a : Agent) → has-agent T a ≡ true → home T a .0 < T .buses

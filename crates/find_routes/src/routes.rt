@@ -4,6 +4,7 @@ ghost use mathlib.Core.Path.{_≡_};
 ghost use mathlib.Core.Bool.{true};
 ghost use mathlib.Core.List.{map};
 ghost use Prim.Native.Nat.{_<_, _≤_};
+ghost use Rattle.chassis.specs.Capacities.{most-agents};
 ghost use Rattle.chassis.specs.Channels.{has-agent, has-chan};
 ghost use Rattle.chassis.specs.Ways.{hop, from};
 ghost use Rattle.chassis.specs.Routes.{way-over, way, channel-of, first-place, next-place, bridge-channels, among, on-the-way, opposes-the-way};
@@ -40,7 +41,7 @@ fn near_end(t: Table, g: usize, forth: bool) -> Bus
 }
 
 fn bridge_channel(t: Table, g: usize, forth: bool) -> Chan
-    requires { ⌜ (g < 15) × (t .agents ≤ 32) ⌝ }
+    requires { ⌜ (g < 15) × (t .agents ≤ most-agents) ⌝ }
     ensures { λ r. ⌜ r ≡ channel-of t (hop g forth) ⌝ }
 {
     let c = t.agents + 2 * (g as u8);

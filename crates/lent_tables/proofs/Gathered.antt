@@ -15,6 +15,7 @@ use Rattle.chassis.specs.Numbers.{bus}
 use Rattle.chassis.specs.Channels.{no-bridge}
 use Rattle.chassis.specs.Tables.{counts-in-range}
 use Rattle.chassis.specs.Answers.{table-answer}
+use Rattle.chassis.specs.Capacities.{most-agents}
 use Rattle.chassis.proofs.Counts.{Counts, counts}
 use Rattle.check_tables.proofs.Asking.{says-23}
 use Rattle.lent_tables.specs.declared.Numbers.{Numbers}
@@ -27,10 +28,10 @@ module _ (m : Numbers) where
   gathered gs hs = record {
     buses = m .buses;
     bridges = counted no-bridge 15 gs;
-    agents = counted (bus 0) 32 hs;
+    agents = counted (bus 0) most-agents hs;
     limits = m .limits;
     pairs = placed no-bridge 15 gs;
-    homes = placed (bus 0) 32 hs;
+    homes = placed (bus 0) most-agents hs;
   }
 
   bridges-gathered : (gs : List Bridge) → all-added bridge-added (empty m) gs ≡ gathered gs []
@@ -39,11 +40,11 @@ module _ (m : Numbers) where
   both-gathered : (gs : List Bridge) (hs : List Bus) → all-added home-added (all-added bridge-added (empty m) gs) hs ≡ gathered gs hs
   both-gathered gs hs =
       ap (λ T. all-added home-added T hs) (bridges-gathered gs)
-      ∙ added-all home-added (gathered gs) (λ l x. rw (counted-on (bus 0) 32 l x, placed-on (bus 0) 32 l x)) [] hs
+      ∙ added-all home-added (gathered gs) (λ l x. rw (counted-on (bus 0) most-agents l x, placed-on (bus 0) most-agents l x)) [] hs
 
-  fits : (gs : List Bridge) (hs : List Bus) → length gs ≤ 15 → length hs ≤ 32 → gathered gs hs ≡ table-of m gs hs
+  fits : (gs : List Bridge) (hs : List Bus) → length gs ≤ 15 → length hs ≤ most-agents → gathered gs hs ≡ table-of m gs hs
   unfolding table-of
-  fits gs hs g h = rw (counted-fits no-bridge 15 gs g, placed-fits no-bridge 15 gs g, counted-fits (bus 0) 32 hs h, placed-fits (bus 0) 32 hs h)
+  fits gs hs g h = rw (counted-fits no-bridge 15 gs g, placed-fits no-bridge 15 gs g, counted-fits (bus 0) most-agents hs h, placed-fits (bus 0) most-agents hs h)
 
   out-of-range : (T : Table) → (Counts T → ⊥) → counts-in-range T ≡ false
   out-of-range T not-so = split (counts-in-range T) (λ e. absurd (not-so (counts T e))) (λ e. e)
@@ -60,9 +61,9 @@ module _ (m : Numbers) where
       (λ h t. both-refused (gathered gs hs) (table-of m gs hs)
       (λ c. let e = counted-over no-bridge 15 gs h in omega (arith, c .bridges .1))
       (λ c. omega (arith, c .bridges .1)))
-      (λ g t. by-test 32 (length hs)
+      (λ g t. by-test most-agents (length hs)
       (λ h t′. both-refused (gathered gs hs) (table-of m gs hs)
-      (λ c. let e = counted-over (bus 0) 32 hs h in omega (arith, c .agents .1))
+      (λ c. let e = counted-over (bus 0) most-agents hs h in omega (arith, c .agents .1))
       (λ c. omega (arith, c .agents .1)))
       (λ h t′. ap (λ T. table-answer T false) (fits gs hs g h)))
 

@@ -12,6 +12,7 @@ use Rattle.chassis.specs.declared.TableAnswer.{TableAnswer}
 use Rattle.chassis.specs.Numbers.{bus, same-bus}
 use Rattle.chassis.specs.Channels.{no-bridge}
 use Rattle.chassis.specs.Answers.{table-answer}
+use Rattle.chassis.specs.Capacities.{most-agents}
 use Rattle.lent_tables.specs.declared.Numbers.{Numbers}
 use Rattle.lent_tables.specs.declared.Joined.{Joined}
 use Rattle.lent_tables.specs.declared.Joined.the-variants as joined-variants
@@ -24,7 +25,7 @@ table-of m gs hs = record {
   agents = length hs;
   limits = m .limits;
   pairs = gs ++ replicate (15 - length gs) no-bridge;
-  homes = hs ++ replicate (32 - length hs) (bus 0);
+  homes = hs ++ replicate (most-agents - length hs) (bus 0);
 }
 
 -- grounds 23 to 27 of that table: a sixteenth bridge, a thirty-third agent or no agent at all is a count out of range

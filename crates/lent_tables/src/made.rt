@@ -10,6 +10,8 @@ use crate::Joined;
 use crate::Numbers;
 use chassis::Bridge;
 use chassis::Bus;
+use chassis::MOST_AGENTS;
+use chassis::MOST_AGENTS_U8;
 use chassis::Table;
 use chassis::TableAnswer;
 use check_tables::tables::table_answer;
@@ -28,7 +30,7 @@ pub fn empty(m: Numbers) -> Table
             first: Bus(0),
             second: Bus(0),
         }; 15],
-        homes: [Bus(0); 32],
+        homes: [Bus(0); MOST_AGENTS],
     }
 }
 
@@ -59,19 +61,21 @@ pub fn add_bridge(t: Table, g: Bridge) -> Table
     u
 }
 
-// A thirty-third agent likewise.
+const ONE_AGENT_TOO_MANY: u8 = MOST_AGENTS_U8 + 1;
+
+// An agent too many likewise.
 pub fn add_home(t: Table, b: Bus) -> Table
     ensures { λ r. ⌜ r ≡ home-added t b ⌝ }
 {
     let mut u = t;
     let n = t.agents;
-    if n < 32 {
+    if n < MOST_AGENTS_U8 {
         let i = n as usize;
         u.homes[i] = b;
         u.agents = n + 1;
         return u;
     }
-    u.agents = 33;
+    u.agents = ONE_AGENT_TOO_MANY;
     u
 }
 

@@ -21,6 +21,7 @@ use Rattle.chassis.specs.Numbers.{bus}
 use Rattle.chassis.specs.Answers as table
 use Rattle.chassis.specs.Answers.{table-answer}
 use Rattle.chassis.specs.Tables.{table-grounds, table-passes, unused-are-zero}
+use Rattle.chassis.specs.Capacities.{most-records}
 use Rattle.network.specs.declared.State.{State}
 use Rattle.network.specs.Nets.{pack, empty-net}
 use Rattle.network.specs.Opening.{opened, state-by}
@@ -73,7 +74,7 @@ module _ (place : ℕ) (b : List ℕ) where
       let q = accepted-block place b a h e in
       let r = and-true (eqb (block-place b) place) _ (frame-is-right place b (q .0)) .1 in
       let k = no-table b (λ n. w (sym (q .1) ∙ n)) in
-      let m = and-true ((eqb (block-kind b) 2 || eqb (block-kind b) 3) && not (eqb place 0)) (leb (record-count b) 63) (rw k at r) .0 in
+      let m = and-true ((eqb (block-kind b) 2 || eqb (block-kind b) 3) && not (eqb place 0)) (leb (record-count b) most-records) (rw k at r) .0 in
       let n = and-true (eqb (block-kind b) 2 || eqb (block-kind b) 3) (not (eqb place 0)) m .1 in
       both (eqb place 0) (eq-eqb place 0 z) (not-true (eqb place 0) n)
 

@@ -9,6 +9,7 @@ use lib.Seq.{drop-drop, getD-take, getD-drop}
 use Rattle.base.specs.Lists.{parts}
 use Rattle.network.specs.declared.State.{State}
 use Rattle.base.proofs.Writing.{length-parts}
+use Rattle.chassis.specs.Capacities.{most-records}
 use Rattle.events.specs.declared.Decoded.{Decoded}
 use Rattle.events.specs.Records.{decoded, records}
 use Rattle.events.specs.Steps.{step, record-step, refusal-number, answer-value}
@@ -128,7 +129,7 @@ holds-front l p q k is n j h =
     let z : 0 + j ≡ j = omega arith in
     ap (λ (i : ℕ). getD l i 0) z ∙ rw is (List·getD-append p q 0 j (omega arith))
 
-module _ (block : ℕ) (b fs vs more-f more-v : List ℕ) (s : State) (w : Right s) (long : length b ≡ 512) (few : record-count b ≤ 63) where
+module _ (block : ℕ) (b fs vs more-f more-v : List ℕ) (s : State) (w : Right s) (long : length b ≡ 512) (few : record-count b ≤ most-records) where
   abbrev r : List ℕ
   r = record-bytes b
 

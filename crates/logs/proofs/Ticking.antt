@@ -7,6 +7,7 @@ use mathlib.Core.List.{List, [], _∷_, _++_, map, append-nil}
 use native.Mathlib.Omega.{arith}
 use lib.ListN.{length, getD, drop, replicate, length-replicate, length-map, drop-of-length-le}
 use Rattle.base.proofs.Logic.{split, true-false}
+use Rattle.chassis.specs.Capacities.{most-record-bytes, most-records}
 use Rattle.network.specs.declared.State.{State}
 use Rattle.network.specs.Nets.{view}
 use Rattle.events.specs.Effects.{value}
@@ -25,8 +26,8 @@ use Rattle.blocks.proofs.Accepted.{length-record-bytes}
 use Rattle.logs.proofs.Stepping.{tick-texts}
 
 -- a tick block's records are whole, few, and have their places
-pub tick-fits : (b : List ℕ) → length b ≡ 512 → record-count b ≤ 63
-    → (length (record-bytes b) % 8 ≡ 0) × (length (record-bytes b) ≤ 504) × (length (record-bytes b) / 8 ≤ length {A = ℕ} (replicate (record-count b) 0))
+pub tick-fits : (b : List ℕ) → length b ≡ 512 → record-count b ≤ most-records
+    → (length (record-bytes b) % 8 ≡ 0) × (length (record-bytes b) ≤ most-record-bytes) × (length (record-bytes b) / 8 ≤ length {A = ℕ} (replicate (record-count b) 0))
 tick-fits b long few =
     let l = length-record-bytes b long few in
     let n = length-replicate {A = ℕ} (record-count b) 0 in
@@ -38,7 +39,7 @@ no-lines Accepted ls h = absurd (true-false h)
 no-lines (Refused n i) ls h = refl
 no-lines (Conflict i j) ls h = refl
 
-module _ (place : ℕ) (s : State) (right : Right s) (b out : List ℕ) (long : length b ≡ 512) (few : record-count b ≤ 63) (places : record-count b ≤ length out) where
+module _ (place : ℕ) (s : State) (right : Right s) (b out : List ℕ) (long : length b ≡ 512) (few : record-count b ≤ most-records) (places : record-count b ≤ length out) where
   abbrev r : List ℕ
   r = record-bytes b
 
@@ -51,7 +52,7 @@ module _ (place : ℕ) (s : State) (right : Right s) (b out : List ℕ) (long : 
   whole : length r % 8 ≡ 0
   whole = tick-fits b long few .0
 
-  short : length r ≤ 504
+  short : length r ≤ most-record-bytes
   short = tick-fits b long few .1
 
   own-room : length r / 8 ≤ length lent

@@ -3,6 +3,8 @@ use blocks::BlockAnswer;
 use blocks::checks::block_answer;
 use blocks::checks::record_bytes;
 use blocks::checks::table_of;
+use chassis::MOST_CHANNELS;
+use chassis::MOST_RECORDS;
 use lines::lines::put_e;
 use lines::lines::put_net;
 use lines::lines::put_stop;
@@ -17,6 +19,7 @@ ghost use mathlib.Core.Path.{_≡_};
 ghost use mathlib.Core.Bool.{true};
 ghost use Prim.Native.Nat.{_+_, _*_, _/_, _≤_};
 ghost use lib.ListN.{length};
+ghost use Rattle.chassis.specs.Capacities.{most-records};
 ghost use Rattle.network.specs.Soundness.{sound};
 ghost use Rattle.ticks.specs.Ticks.{tick-number, tick-record, tick-other};
 ghost use Rattle.blocks.specs.Answers.{block-answer};
@@ -37,7 +40,7 @@ fn put_steps(
     values: &[u16],
     n: usize,
 ) -> usize
-    requires { ⌜ (at + 40 * n ≤ length (now out)) × (n ≤ 63) × (8 * n ≤ length (now r)) × (n ≤ length (now refusals)) × (n ≤ length (now values)) ⌝ }
+    requires { ⌜ (at + 40 * n ≤ length (now out)) × (n ≤ most-records) × (8 * n ≤ length (now r)) × (n ≤ length (now refusals)) × (n ≤ length (now values)) ⌝ }
     ensures { λ q. ⌜ Written (now (out .entry)) at (step-texts block (now (r .entry)) (now (refusals .entry)) (now (values .entry)) n 0) (now (out .exit)) q ⌝ }
     ensures { λ q. ⌜ q ≤ at + 40 * n ⌝ }
 {
@@ -59,15 +62,15 @@ pub struct BlockRan {
 
 // A block of single steps: its records played, its `e` lines written from `at` on.
 pub fn play_steps(s: State, place: u32, b: &[u8], out: &mut [u8], at: usize) -> BlockRan
-    requires { ⌜ (sound s ≡ true) × (length (now b) ≡ 512) × (record-count (now b) ≤ 63) × (at + 2520 ≤ length (now out)) ⌝ }
+    requires { ⌜ (sound s ≡ true) × (length (now b) ≡ 512) × (record-count (now b) ≤ most-records) × (at + 2520 ≤ length (now out)) ⌝ }
     ensures { λ q. ⌜ q .state ≡ (steps place 0 s (block-records (now (b .entry)))) .state ⌝ }
     ensures { λ q. ⌜ Written (now (out .entry)) at (texts ((steps place 0 s (block-records (now (b .entry)))) .lines)) (now (out .exit)) (q .end) ⌝ }
     ensures { λ q. ⌜ q .end ≤ at + 2560 ⌝ }
 {
     let n = b[1] as usize;
     let r = record_bytes(b);
-    let mut refusals: [u8; 63] = [0; 63];
-    let mut values: [u16; 63] = [0; 63];
+    let mut refusals: [u8; MOST_RECORDS] = [0; MOST_RECORDS];
+    let mut values: [u16; MOST_RECORDS] = [0; MOST_RECORDS];
     let state = play(s, r, &mut refusals, &mut values);
     let end = put_steps(out, at, place, r, &refusals, &values, n);
     BlockRan { state, end }
@@ -112,15 +115,15 @@ pub fn tick_other(a: TickAnswer) -> u8
 
 // A tick block: its `t` line and, where the tick is accepted, an `e` line for each record.
 pub fn play_cycle(s: State, place: u32, b: &[u8], out: &mut [u8], at: usize) -> BlockRan
-    requires { ⌜ (sound s ≡ true) × (length (now b) ≡ 512) × (record-count (now b) ≤ 63) × (at + 2560 ≤ length (now out)) ⌝ }
+    requires { ⌜ (sound s ≡ true) × (length (now b) ≡ 512) × (record-count (now b) ≤ most-records) × (at + 2560 ≤ length (now out)) ⌝ }
     ensures { λ q. ⌜ q .state ≡ (tick-of s (now (b .entry))) .state ⌝ }
     ensures { λ q. ⌜ Written (now (out .entry)) at (texts (tick-lines place (block-records (now (b .entry))) (tick-of s (now (b .entry))))) (now (out .exit)) (q .end) ⌝ }
     ensures { λ q. ⌜ q .end ≤ at + 2560 ⌝ }
 {
     let n = b[1] as usize;
     let r = record_bytes(b);
-    let none: [u8; 63] = [0; 63];
-    let mut values: [u16; 63] = [0; 63];
+    let none: [u8; MOST_RECORDS] = [0; MOST_RECORDS];
+    let mut values: [u16; MOST_RECORDS] = [0; MOST_RECORDS];
     let q = play_tick(s, r, &mut values);
     let a = q.answer;
     let state = q.state;
@@ -201,7 +204,7 @@ pub fn entries_left(s: State) -> u32
 {
     let mut sum: u32 = 0;
     let mut i: usize = 0;
-    while i < 62 {
+    while i < MOST_CHANNELS {
         let c = s.channels[i];
         let n = c.count as u32;
         sum += n;

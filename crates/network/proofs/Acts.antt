@@ -1,4 +1,4 @@
--- A change of a channel as declared is the change of its list, wherever the lists fit their 24 places; and a channel or an
+-- A change of a channel as declared is the change of its list, wherever the lists fit their places; and a channel or an
 -- agent that is not there changes nothing.
 use Prim.Native.Nat.{ℕ, zero, suc, _≤_}
 use mathlib.Core.Path.{_≡_, refl, ap}
@@ -13,7 +13,7 @@ use Rattle.queue.specs.declared.Channel.{Channel}
 use Rattle.queue.specs.declared.Change.{Change}
 use Rattle.queue.specs.code.Changes.{changes}
 use Rattle.queue.specs.code.Methods.{changed-to}
-use Rattle.queue.specs.Packing.{packed}
+use Rattle.queue.specs.Packing.{packed, channel-places}
 use Rattle.queue.proofs.Packed.{changed-packed}
 use Rattle.network.specs.declared.State.{State}
 use Rattle.network.specs.declared.Act.{Act}
@@ -34,13 +34,13 @@ unfolding counted
 counted-same s m = rw (set-getD (s .begins) (m .0) 0)
 
 -- one cell of a list of packed channels
-set-packed : (ch : Change) (ls : List (List Entry)) (i : ℕ) → length (getD ls i []) ≤ 24 → length (changes ch (getD ls i [])) ≤ 24
+set-packed : (ch : Change) (ls : List (List Entry)) (i : ℕ) → length (getD ls i []) ≤ channel-places → length (changes ch (getD ls i [])) ≤ channel-places
     → set (map packed ls) i (changed-to (getD (map packed ls) i (record { entries = []; count = 0 })) ch) ≡ map packed (modify ls i (changes ch))
 unfolding modify
 set-packed ch [] i h k = refl
 set-packed ch (l ∷ ls) zero h k = rw (changed-packed ch l h k)
 set-packed ch (l ∷ ls) (suc i) h k = ap (packed l ∷_) (set-packed ch ls i h k)
 
-pub acted-packed : (n : Net) (a : Act) → length (waiting n (a .at)) ≤ 24 → length (changes (a .change) (waiting n (a .at))) ≤ 24 → acted-on (pack n) a ≡ pack (act a n)
+pub acted-packed : (n : Net) (a : Act) → length (waiting n (a .at)) ≤ channel-places → length (changes (a .change) (waiting n (a .at))) ≤ channel-places → acted-on (pack n) a ≡ pack (act a n)
 unfolding acted-on act pack
 acted-packed n a h k = rw (set-packed (a .change) (n .chans) (a .at .0) h k)

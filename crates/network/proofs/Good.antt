@@ -17,22 +17,23 @@ use Rattle.chassis.specs.declared.Table.{Table}
 use Rattle.chassis.specs.Numbers.{chan}
 use Rattle.chassis.specs.Channels.{has-agent}
 use Rattle.chassis.specs.Tables.{table-passes}
+use Rattle.chassis.specs.Capacities.{most-agents, most-channels}
 use Rattle.queue.specs.declared.Entry.{Entry}
 use Rattle.queue.specs.declared.Channel.{Channel}
 use Rattle.queue.specs.Entries.{zero-entry}
 use Rattle.queue.specs.Queues.{filling}
-use Rattle.queue.specs.Packing.{live, packed}
+use Rattle.queue.specs.Packing.{live, packed, channel-places}
 use Rattle.network.specs.declared.State.{State}
 use Rattle.network.specs.Nets.{Net, view, pack, empty-net, waiting, begun}
 use Rattle.network.specs.Soundness.{sound}
 use Rattle.network.specs.Shapes.{no-channel, Shaped}
-use Rattle.network.proofs.Rules.{Rules, rules, rules-kept, at-most-24}
+use Rattle.network.proofs.Rules.{Rules, rules, rules-kept, within-its-places}
 use Rattle.network.proofs.Packing.{sound-opened, sound-pack, empty-waits, empty-begun}
 
 pub record Good (s : Net) : Type 0 where
   pub rules : Rules s
-  pub channels : length (s .chans) ≡ 62
-  pub counts : length (s .begins) ≡ 32
+  pub channels : length (s .chans) ≡ most-channels
+  pub counts : length (s .begins) ≡ most-agents
   pub absent : (a : Agent) → has-agent (s .table) a ≡ false → begun s a ≡ 0
   pub most : (a : Agent) → begun s a ≤ 65535
 
@@ -41,10 +42,10 @@ pub record Good (s : Net) : Type 0 where
 pub good-is-sound : (s : Net) → Good s → sound (pack s) ≡ true
 good-is-sound s g = sound-pack s (rules-kept s (g .rules)) (g .absent)
 
-most-of : (l : List ℕ) → length l ≡ 32 → ((a : ℕ) → a < 32 → getD l a 0 ≤ 65535) → (a : ℕ) → getD l a 0 ≤ 65535
+most-of : (l : List ℕ) → length l ≡ most-agents → ((a : ℕ) → a < most-agents → getD l a 0 ≤ 65535) → (a : ℕ) → getD l a 0 ≤ 65535
 most-of l e h a =
-    split (ltb a 32) (λ t. h a (ltb-true a 32 t))
-    (λ f. omega (arith, List·getD-eq-default l 0 {n = a} (omega (arith, ltb-false a 32 f))))
+    split (ltb a most-agents) (λ t. h a (ltb-true a most-agents t))
+    (λ f. omega (arith, List·getD-eq-default l 0 {n = a} (omega (arith, ltb-false a most-agents f))))
 
 pub sound-is-good : (s : State) → Shaped s → sound s ≡ true → Good (view s)
 unfolding view
@@ -58,18 +59,18 @@ sound-is-good s w h =
       most = λ a. most-of (s .begins) (w .begins) (w .counts) (a .0);
     }
 
--- in a sound state nowhere more than 24 wait
-pub sound-at-most-24 : (s : State) → sound s ≡ true → (N : Chan) → length (waiting (view s) N) ≤ 24
-sound-at-most-24 s h = at-most-24 (view s) (rules (view s) (sound-opened s h .rules))
+-- in a sound state nowhere more wait than there are places
+pub sound-within-its-places : (s : State) → sound s ≡ true → (N : Chan) → length (waiting (view s) N) ≤ channel-places
+sound-within-its-places s h = within-its-places (view s) (rules (view s) (sound-opened s h .rules))
 
 -- the table's arrays have their lengths
 pub record Arrays (T : Table) : Type 0 where
   pub limits : length (T .limits) ≡ 3
   pub pairs : length (T .pairs) ≡ 15
-  pub homes : length (T .homes) ≡ 32
+  pub homes : length (T .homes) ≡ most-agents
 
-packed-length : (l : List Entry) → length l ≤ 24 → length (packed l .entries) ≡ 24
-packed-length l h = omega (arith, length-append l (replicate (24 - length l) zero-entry), length-replicate (24 - length l) zero-entry)
+packed-length : (l : List Entry) → length l ≤ channel-places → length (packed l .entries) ≡ channel-places
+packed-length l h = omega (arith, length-append l (replicate (channel-places - length l) zero-entry), length-replicate (channel-places - length l) zero-entry)
 
 pub good-is-shaped : (s : Net) → Arrays (s .table) → Good s → Shaped (pack s)
 unfolding pack
@@ -78,7 +79,7 @@ good-is-shaped s t g = record {
   begins = g .counts;
   entries = λ i k.
       ap (λ (c : Channel). length (c .entries)) (cell-map packed (s .chans) i [] no-channel (omega (arith, g .channels)))
-      ∙ packed-length (waiting s (chan i)) (at-most-24 s (g .rules) (chan i));
+      ∙ packed-length (waiting s (chan i)) (within-its-places s (g .rules) (chan i));
   counts = λ a _. g .most (record { 0 = a });
   limits = t .limits;
   pairs = t .pairs;

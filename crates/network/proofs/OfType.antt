@@ -13,7 +13,9 @@ use denote.Shadow.{shadow}
 use denote.Laws.{Is}
 use lib.ListN.{length, getD, length-map}
 use Rattle.base.proofs.Walks.{owned, length-mapped}
+use Rattle.chassis.specs.Capacities.{most-channels}
 use Rattle.queue.specs.declared.Channel.{Channel}
+use Rattle.queue.specs.Packing.{channel-places}
 use Rattle.queue.proofs.Channel as C
 use Rattle.network.proofs.State as S
 use Rattle.network.specs.declared.State.{State}
@@ -31,7 +33,7 @@ pub of-type : (s : State) (vs : List Val) → Is S.the-row s vs → Shaped s
 of-type s vs h = record {
   channels = search owned;
   begins = search owned;
-  entries = λ i l. each-is _ (C.the-field .row .own) _ (λ c. length (c .entries) ≡ 24) (λ x us k. search owned) (s .channels) (h .1 .1 .1 .0 .0) (h .1 .1 .1 .0 .1 .1) i (let n : length (s .channels) ≡ 62 = search owned in omega arith) no-channel;
+  entries = λ i l. each-is _ (C.the-field .row .own) _ (λ c. length (c .entries) ≡ channel-places) (λ x us k. search owned) (s .channels) (h .1 .1 .1 .0 .0) (h .1 .1 .1 .0 .1 .1) i (let n : length (s .channels) ≡ most-channels = search owned in omega arith) no-channel;
   counts = λ a l. let f : Fits w16 (getD (s .begins) a 0) = search needs in omega arith;
   limits = search owned;
   pairs = search owned;

@@ -19,16 +19,17 @@ use Rattle.chassis.specs.declared.Chan.{Chan}
 use Rattle.chassis.specs.declared.Table.{Table}
 use Rattle.chassis.specs.Numbers.{agent, chan}
 use Rattle.chassis.specs.Channels.{chan-count, has-agent}
+use Rattle.chassis.specs.Capacities.{most-agents, most-channels}
 use Rattle.queue.specs.declared.Entry.{Entry}
 use Rattle.queue.specs.declared.Channel.{Channel}
 use Rattle.queue.specs.Entries.{zero-entry, is-zero-entry}
-use Rattle.queue.specs.Packing.{live, packed}
+use Rattle.queue.specs.Packing.{live, packed, channel-places}
 use Rattle.network.specs.declared.State.{State}
 use Rattle.network.specs.Nets.{Net, view, pack, empty-net, waiting, begun}
 use Rattle.network.specs.Soundness.{counts-fit, keeps-the-rules, unused-are-zero, sound}
 use Rattle.network.specs.Shapes.{no-channel, Shaped}
 use Rattle.network.proofs.Fits.{beyond-is-empty}
-use Rattle.network.proofs.Rules.{rules, at-most-24}
+use Rattle.network.proofs.Rules.{rules, within-its-places}
 
 -- ---- one channel
 
@@ -64,16 +65,16 @@ zeros-are (x ∷ l) h =
     ap (_∷ l) (zero-is x (r .0)) ∙ ap (zero-entry ∷_) (zeros-are l (r .1))
 
 pub live-packed : (l : List Entry) → live (packed l) ≡ l
-live-packed l = take-append-seam l (replicate (24 - length l) zero-entry)
+live-packed l = take-append-seam l (replicate (channel-places - length l) zero-entry)
 
 channel-path : (c : Channel) (n : ℕ) (l : List Entry) → n ≡ c .count → l ≡ c .entries → _≡_ {A = Channel} (record { entries = l; count = n }) c
 channel-path c n l p q = λ i. record { entries = q i; count = p i }
 
-pub packed-live : (c : Channel) → c .count ≤ 24 → length (c .entries) ≡ 24 → all is-zero-entry (drop (c .count) (c .entries)) ≡ true → packed (live c) ≡ c
+pub packed-live : (c : Channel) → c .count ≤ channel-places → length (c .entries) ≡ channel-places → all is-zero-entry (drop (c .count) (c .entries)) ≡ true → packed (live c) ≡ c
 packed-live c h e z =
     let n : length (live c) ≡ c .count = length-take-le (c .count) (c .entries) (omega arith) in
-    let d : length (drop (c .count) (c .entries)) ≡ 24 - length (live c) = omega (arith, length-drop (c .count) (c .entries)) in
-    channel-path c (length (live c)) (live c ++ replicate (24 - length (live c)) zero-entry) n
+    let d : length (drop (c .count) (c .entries)) ≡ channel-places - length (live c) = omega (arith, length-drop (c .count) (c .entries)) in
+    channel-path c (length (live c)) (live c ++ replicate (channel-places - length (live c)) zero-entry) n
     (ap (λ (m : ℕ). live c ++ replicate m zero-entry) (sym d)
     ∙ ap (live c ++_) (sym (zeros-are (drop (c .count) (c .entries)) z))
     ∙ take-append-drop (c .count) (c .entries))
@@ -88,7 +89,7 @@ zero-or-within : (i n m : ℕ) → (ltb i m ≡ false → n ≡ 0) → ltb i m |
 zero-or-within i n m h = split (ltb i m) (λ t. rw t) (λ f. rw f (eq-eqb n 0 (h f)))
 
 pub record Sound (s : State) : Type 0 where
-  pub fitting : (i : ℕ) → (getD (s .channels) i no-channel) .count ≤ 24
+  pub fitting : (i : ℕ) → (getD (s .channels) i no-channel) .count ≤ channel-places
   pub rules : keeps-the-rules (view s) ≡ true
   pub zeros : (i : ℕ) → all is-zero-entry (drop ((getD (s .channels) i no-channel) .count) ((getD (s .channels) i no-channel) .entries)) ≡ true
   pub absent : (a : Agent) → has-agent (s .table) a ≡ false → getD (s .begins) (a .0) 0 ≡ 0
@@ -104,7 +105,7 @@ sound-opened s h =
     let u = and-true (all zero-behind (s .channels) && all-from 0 in-table (s .channels)) (all-from 0 has-count (s .begins)) (r .1) in
     let v = and-true (all zero-behind (s .channels)) (all-from 0 in-table (s .channels)) (u .0) in
     record {
-      fitting = λ i. leb-true ((getD (s .channels) i no-channel) .count) 24 (all-cell (λ (c : Channel). leb (c .count) 24) (s .channels) no-channel (q .0) refl i);
+      fitting = λ i. leb-true ((getD (s .channels) i no-channel) .count) channel-places (all-cell (λ (c : Channel). leb (c .count) channel-places) (s .channels) no-channel (q .0) refl i);
       rules = q .1;
       zeros = all-cell zero-behind (s .channels) no-channel (v .0) refl;
       absent = λ a. within-or-zero (a .0) (getD (s .begins) (a .0) 0) (s .table .agents)
@@ -137,13 +138,13 @@ module _ (n : Net) (k : keeps-the-rules n ≡ true) where
   packed-counts : counts-fit (pack n) ≡ true
   unfolding counts-fit pack
   packed-counts =
-      all-map packed (λ (c : Channel). leb (c .count) 24) (n .chans)
-      ∙ cell-all (λ (l : List Entry). leb (length l) 24) (n .chans) [] (λ j. le-leb (length (waiting n (chan j))) 24 (at-most-24 n (rules n k) (chan j)))
+      all-map packed (λ (c : Channel). leb (c .count) channel-places) (n .chans)
+      ∙ cell-all (λ (l : List Entry). leb (length l) channel-places) (n .chans) [] (λ j. le-leb (length (waiting n (chan j))) channel-places (within-its-places n (rules n k) (chan j)))
 
-  zero-behind : (l : List Entry) → all is-zero-entry (drop (length l) (l ++ replicate (24 - length l) zero-entry)) ≡ true
+  zero-behind : (l : List Entry) → all is-zero-entry (drop (length l) (l ++ replicate (channel-places - length l) zero-entry)) ≡ true
   unfolding is-zero-entry
   zero-behind l =
-      ap (all is-zero-entry) (drop-append-seam l (replicate (24 - length l) zero-entry)) ∙ filled-all is-zero-entry zero-entry refl (24 - length l)
+      ap (all is-zero-entry) (drop-append-seam l (replicate (channel-places - length l) zero-entry)) ∙ filled-all is-zero-entry zero-entry refl (channel-places - length l)
 
   pub sound-pack : ((a : Agent) → has-agent (n .table) a ≡ false → begun n a ≡ 0) → sound (pack n) ≡ true
   unfolding sound unused-are-zero pack
@@ -164,8 +165,8 @@ module _ (n : Net) (k : keeps-the-rules n ≡ true) where
 
 pub empty-waits : (T : Table) (N : Chan) → waiting (empty-net T) N ≡ []
 unfolding empty-net
-empty-waits T N = replicate-at 62 (N .0) []
+empty-waits T N = replicate-at most-channels (N .0) []
 
 pub empty-begun : (T : Table) (a : Agent) → begun (empty-net T) a ≡ 0
 unfolding empty-net
-empty-begun T a = replicate-at 32 (a .0) 0
+empty-begun T a = replicate-at most-agents (a .0) 0

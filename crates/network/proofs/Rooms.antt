@@ -1,4 +1,4 @@
--- Rooms: the one that holds an entry is the entry's own, none looks at the mark, and together they hold no more than 24.
+-- Rooms: the one that holds an entry is the entry's own, none looks at the mark, and together they hold no more than a channel has places for.
 -- Each kind has one room, and no limit is above 8.
 use Prim.Native.Nat.{ℕ, zero, suc, _-_, _≤_}
 use native.Mathlib.Omega.{arith}
@@ -22,6 +22,7 @@ use Rattle.chassis.proofs.Counts.{counts}
 use Rattle.chassis.proofs.Passing.{passed}
 use Rattle.queue.specs.declared.Entry.{Entry}
 use Rattle.queue.specs.Entries.{P, R, C, kinds, is-kind}
+use Rattle.queue.specs.Packing.{channel-places}
 use Rattle.queue.proofs.Marks.{Blind, kind-blind}
 use Rattle.network.specs.Rooms.{Room, room-of, room-for, rooms, is-full}
 
@@ -70,8 +71,8 @@ module _ (T : Table) where
   room-blind k m = kind-blind k
 
   -- all of them together
-  pub in-24 : table-passes T ≡ true → total (λ r. r .most) (rooms T) ≤ 24
+  pub rooms-within-places : table-passes T ≡ true → total (λ r. r .most) (rooms T) ≤ channel-places
   unfolding rooms
-  in-24 h =
+  rooms-within-places h =
       let low : (k : ℕ) → limit T k ≤ 8 = λ k. below-8 (T .limits) (counts T (passed T h .counts) .limits) (k - 1) in
       omega (arith, low P, low R, low C)

@@ -1,4 +1,4 @@
--- What is said of tables and entries in a sound state, as facts of each channel and each entry, both ways; so a channel holds at most 24 entries.
+-- What is said of tables and entries in a sound state, as facts of each channel and each entry, both ways; so every entry of a channel has its place.
 -- Each entry takes a room, and the rooms together hold no more (proofs/Rooms.antt).
 use Prim.Native.Nat.{ℕ, _≤_}
 use mathlib.Core.Path.{_≡_}
@@ -19,10 +19,11 @@ use Rattle.chassis.specs.Tables.{within, table-passes}
 use Rattle.queue.specs.declared.Entry.{Entry}
 use Rattle.queue.specs.Entries.{P, R, C, is-kind}
 use Rattle.queue.specs.Queues.{filling}
+use Rattle.queue.specs.Packing.{channel-places}
 use Rattle.network.specs.Rooms.{Room, rooms, is-kept}
 use Rattle.network.specs.Nets.{Net, waiting, begun}
 use Rattle.network.specs.Soundness.{within-limits, stands-right, fit, keeps-the-rules}
-use Rattle.network.proofs.Rooms.{takes-one, in-24}
+use Rattle.network.proofs.Rooms.{takes-one, rooms-within-places}
 
 -- ---- one entry
 
@@ -102,14 +103,14 @@ rules-kept s r =
     (cell-from fits-at (s .chans) []
     (λ n. in-all (fit s (chan n)) (waiting s (chan n)) (λ x i. fit-closed s (chan n) x (r .fits (chan n) x i))))
 
--- ---- at most 24
+-- ---- a place for each
 
 module _ (s : Net) (r : Rules s) where
-  pub at-most-24 : (N : Chan) → length (waiting s N) ≤ 24
-  at-most-24 N =
+  pub within-its-places : (N : Chan) → length (waiting s N) ≤ channel-places
+  within-its-places N =
       omega (
         arith,
         covered (λ (q : Room). q .holds) (waiting s N) (rooms (s .table)) (λ x i. takes-one (s .table) x (r .fits N x i .known)),
         total-more (λ q. filling (q .holds) (waiting s N)) (λ q. q .most) (rooms (s .table)) (r .limits N),
-        in-24 (s .table) (r .passes),
+        rooms-within-places (s .table) (r .passes),
       )

@@ -19,7 +19,7 @@ use Rattle.chassis.specs.Tables.{within, table-passes}
 use Rattle.queue.specs.declared.Entry.{Entry}
 use Rattle.queue.specs.declared.Channel.{Channel}
 use Rattle.queue.specs.Entries.{P, R, C, is-kind, is-zero-entry}
-use Rattle.queue.specs.Packing.{live}
+use Rattle.queue.specs.Packing.{live, channel-places}
 use Rattle.network.specs.declared.State.{State}
 use Rattle.network.specs.Nets.{view}
 use Rattle.network.specs.Rooms.{room-of, rooms, is-kept}
@@ -88,28 +88,28 @@ module _ (T : Table) (l : List Entry) where
 -- ---- one channel
 
 module _ (T : Table) (begins : List ℕ) (n : ℕ) (c : Channel) where
-  pub too-many : 24 < c .count → false ≡ sound-channel T begins n c
+  pub too-many : channel-places < c .count → false ≡ sound-channel T begins n c
   unfolding sound-channel
-  too-many a = rw (lt-leb (c .count) 24 a)
+  too-many a = rw (lt-leb (c .count) channel-places a)
 
-  module _ (a : c .count ≤ 24) where
+  module _ (a : c .count ≤ channel-places) where
     pub over-a-limit : within-limits T (live c) ≡ false → false ≡ sound-channel T begins n c
     unfolding sound-channel
-    over-a-limit b = rw (le-leb (c .count) 24 a, b)
+    over-a-limit b = rw (le-leb (c .count) channel-places a, b)
 
     module _ (b : within-limits T (live c) ≡ true) where
       pub one-misfits : all (fit (counting T begins) (chan n)) (live c) ≡ false → false ≡ sound-channel T begins n c
       unfolding sound-channel
-      one-misfits d = rw (le-leb (c .count) 24 a, b, d)
+      one-misfits d = rw (le-leb (c .count) channel-places a, b, d)
 
       module _ (d : all (fit (counting T begins) (chan n)) (live c) ≡ true) where
         pub not-all-zero : all is-zero-entry (drop (c .count) (c .entries)) ≡ false → false ≡ sound-channel T begins n c
         unfolding sound-channel
-        not-all-zero e = rw (le-leb (c .count) 24 a, b, d, e)
+        not-all-zero e = rw (le-leb (c .count) channel-places a, b, d, e)
 
         pub is-there-or-empty : all is-zero-entry (drop (c .count) (c .entries)) ≡ true → {r : Bool} → r ≡ (ltb n (chan-count T) || eqb (c .count) 0) → r ≡ sound-channel T begins n c
         unfolding sound-channel
-        is-there-or-empty e f = rw (le-leb (c .count) 24 a, b, d, e) f
+        is-there-or-empty e f = rw (le-leb (c .count) channel-places a, b, d, e) f
 
 -- ---- all channels
 
@@ -120,7 +120,7 @@ order a t l f z b g = simp and-assoc (and-swap a t (l && (f && (z && (b && g))))
 -- five tests of each channel are one
 module _ (T : Table) (begins : List ℕ) (cs : List Channel) where
   abbrev few : ℕ → Channel → Bool
-  few n c = leb (c .count) 24
+  few n c = leb (c .count) channel-places
 
   abbrev limited : ℕ → Channel → Bool
   limited n c = within-limits T (live c)

@@ -7,6 +7,7 @@ use lib.ListN.{getD, replicate}
 use Rattle.chassis.specs.declared.Agent.{Agent}
 use Rattle.chassis.specs.declared.Chan.{Chan}
 use Rattle.chassis.specs.declared.Table.{Table}
+use Rattle.chassis.specs.Capacities.{most-agents, most-channels}
 use Rattle.queue.specs.declared.Entry.{Entry}
 use Rattle.queue.specs.Packing.{live, packed}
 use Rattle.network.specs.declared.State.{State}
@@ -25,7 +26,7 @@ pack s = record { table = s .table; channels = map packed (s .chans); begins = s
 
 -- the empty network of a table
 unfoldable pub empty-net : Table → Net
-empty-net T = record { table = T; chans = replicate 62 []; begins = replicate 32 0 }
+empty-net T = record { table = T; chans = replicate most-channels []; begins = replicate most-agents 0 }
 
 -- what waits in channel N
 abbrev pub waiting : Net → Chan → List Entry

@@ -6,6 +6,7 @@ use Rattle.chassis.specs.declared.TableAnswer.{TableAnswer}
 use Rattle.chassis.specs.declared.TableAnswer.the-variants.{Passed, Refused}
 use Rattle.chassis.specs.Tables.{zero-table}
 use Rattle.chassis.specs.Answers.{table-answer}
+use Rattle.chassis.specs.Capacities.{most-agents, most-channels}
 use Rattle.queue.specs.Packing.{zero-channel}
 use Rattle.network.specs.declared.State.{State}
 use Rattle.network.specs.declared.Opened.{Opened}
@@ -13,7 +14,7 @@ use Rattle.network.specs.Nets.{pack, empty-net}
 
 -- the all-zero state, which is not sound
 unfoldable pub zero-state : State
-zero-state = record { table = zero-table; channels = replicate 62 zero-channel; begins = replicate 32 0 }
+zero-state = record { table = zero-table; channels = replicate most-channels zero-channel; begins = replicate most-agents 0 }
 
 abbrev pub state-by : Table → TableAnswer → State
 state-by T Passed = pack (empty-net T)

@@ -14,13 +14,14 @@ use Rattle.chassis.specs.Tables.{table-passes, within}
 use Rattle.queue.specs.declared.Entry.{Entry}
 use Rattle.queue.specs.declared.Channel.{Channel}
 use Rattle.queue.specs.Entries.{P, R, C, is-kind, is-zero-entry}
+use Rattle.queue.specs.Packing.{channel-places}
 use Rattle.network.specs.declared.State.{State}
 use Rattle.network.specs.Rooms.{rooms, is-kept}
 use Rattle.network.specs.Nets.{Net, view, begun}
 
 -- no channel's number of entries is above 24
 unfoldable pub counts-fit : State → Bool
-counts-fit s = all (λ c. leb (c .count) 24) (s .channels)
+counts-fit s = all (λ c. leb (c .count) channel-places) (s .channels)
 
 -- no kind exceeds its limit in a channel
 unfoldable pub within-limits : Table → List Entry → Bool

@@ -12,17 +12,19 @@ use chassis::Agent;
 use chassis::Bridge;
 use chassis::Bus;
 use chassis::Chan;
+use chassis::MOST_AGENTS;
+use chassis::MOST_CHANNELS;
 use chassis::Table;
 use chassis::TableAnswer;
 use check_tables::tables::table_answer;
 use queue::Change;
 use queue::Channel;
 
-// 62 channels are enough for 32 agents and 15 bridges. `begins` counts each agent's accepted begins.
+// `begins` counts each agent's accepted begins.
 pub struct State {
     pub table: Table,
-    pub channels: [Channel; 62],
-    pub begins: [u16; 32],
+    pub channels: [Channel; MOST_CHANNELS],
+    pub begins: [u16; MOST_AGENTS],
 }
 
 // What the table check answered, and beside it the empty network of a table that passed, or the all-zero state.
@@ -44,8 +46,8 @@ pub fn empty(t: Table) -> State
     let c = Channel::empty();
     State {
         table: t,
-        channels: [c; 62],
-        begins: [0; 32],
+        channels: [c; MOST_CHANNELS],
+        begins: [0; MOST_AGENTS],
     }
 }
 
@@ -63,7 +65,7 @@ fn zero_table() -> Table
         agents: 0,
         limits: [0; 3],
         pairs: [g; 15],
-        homes: [b; 32],
+        homes: [b; MOST_AGENTS],
     }
 }
 
@@ -104,7 +106,7 @@ impl State {
     {
         let at = a.at;
         let i = at.0 as usize;
-        if 62 <= i {
+        if MOST_CHANNELS <= i {
             return self;
         }
         let change = a.change;
@@ -118,7 +120,7 @@ impl State {
         ensures { λ r. ⌜ r ≡ counted self m n ⌝ }
     {
         let i = m.0 as usize;
-        if 32 <= i {
+        if MOST_AGENTS <= i {
             return self;
         }
         self.begins[i] = n;

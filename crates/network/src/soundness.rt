@@ -10,13 +10,16 @@ ghost use Rattle.chassis.specs.Channels.{has-agent, chan-count};
 ghost use Rattle.chassis.specs.Tables.{table-passes, within};
 ghost use Rattle.check_tables.specs.Ladders.{ladder-of};
 ghost use Rattle.queue.specs.Entries.{P, R, C, is-kind};
-ghost use Rattle.queue.specs.Packing.{live};
+ghost use Rattle.queue.specs.Packing.{live, channel-places};
 ghost use Rattle.network.specs.Soundness.{within-limits, stands-right, fit, sound};
 ghost use Rattle.network.specs.code.Testing.{counting, sound-channel, sound-count};
 use crate::State;
 use crate::limits::kept_in;
 use chassis::Agent;
 use chassis::Chan;
+use chassis::MOST_AGENTS;
+use chassis::MOST_AGENTS_U8;
+use chassis::MOST_CHANNELS_U8;
 use chassis::Table;
 use chassis::TableAnswer;
 use chassis::channels::has_agent;
@@ -26,6 +29,7 @@ use check_tables::tables::table_answer;
 use find_routes::routes::on_the_way;
 use find_routes::routes::opposes_the_way;
 use queue::C;
+use queue::CHANNEL_PLACES;
 use queue::Channel;
 use queue::Entry;
 use queue::P;
@@ -61,18 +65,18 @@ fn may_be_marked(x: Entry) -> bool
     !x.committed
 }
 
-fn begun(begins: [u16; 32], a: Agent) -> u16
+fn begun(begins: [u16; MOST_AGENTS], a: Agent) -> u16
     ensures { λ r. ⌜ r ≡ getD begins (a .0) 0 ⌝ }
 {
     let i = a.0 as usize;
-    if 32 <= i {
+    if MOST_AGENTS <= i {
         return 0;
     }
     begins[i]
 }
 
 // "Numbers run from 1 to the master's count."
-fn is_begun(begins: [u16; 32], x: Entry) -> bool
+fn is_begun(begins: [u16; MOST_AGENTS], x: Entry) -> bool
     ensures { λ r. ⌜ r ≡ within 1 (getD begins (x .transaction .master .0) 0) (x .transaction .number) ⌝ }
 {
     if x.transaction.number < 1 {
@@ -93,7 +97,7 @@ fn stands_right(t: Table, ways: &[u8; 256], n: Chan, x: Entry) -> bool
 }
 
 // The routes are asked last but one: by then the table is known to have both agents.
-fn fits(t: Table, ways: &[u8; 256], begins: [u16; 32], n: Chan, x: Entry) -> bool
+fn fits(t: Table, ways: &[u8; 256], begins: [u16; MOST_AGENTS], n: Chan, x: Entry) -> bool
     requires { ⌜ (table-passes t ≡ true) × (n .0 < 255) × (now ways ≡ ladder-of t) ⌝ }
     ensures { λ r. ⌜ r ≡ fit (counting t begins) n x ⌝ }
 {
@@ -121,8 +125,8 @@ fn fits(t: Table, ways: &[u8; 256], begins: [u16; 32], n: Chan, x: Entry) -> boo
     may_be_marked(x)
 }
 
-fn entries_fit(t: Table, ways: &[u8; 256], begins: [u16; 32], n: Chan, c: Channel) -> bool
-    requires { ⌜ (table-passes t ≡ true) × (n .0 < 255) × (c .count ≤ 24) × (now ways ≡ ladder-of t) ⌝ }
+fn entries_fit(t: Table, ways: &[u8; 256], begins: [u16; MOST_AGENTS], n: Chan, c: Channel) -> bool
+    requires { ⌜ (table-passes t ≡ true) × (n .0 < 255) × (c .count ≤ channel-places) × (now ways ≡ ladder-of t) ⌝ }
     ensures { λ r. ⌜ r ≡ all (fit (counting t begins) n) (live c) ⌝ }
 {
     let count = c.count;
@@ -160,11 +164,17 @@ fn there_or_empty(t: Table, n: Chan, c: Channel) -> bool
 }
 
 // The count is asked first: the walks over the entries trust it.
-fn is_sound_channel(t: Table, ways: &[u8; 256], begins: [u16; 32], n: Chan, c: Channel) -> bool
+fn is_sound_channel(
+    t: Table,
+    ways: &[u8; 256],
+    begins: [u16; MOST_AGENTS],
+    n: Chan,
+    c: Channel,
+) -> bool
     requires { ⌜ (table-passes t ≡ true) × (n .0 < 255) × (now ways ≡ ladder-of t) ⌝ }
     ensures { λ r. ⌜ r ≡ sound-channel t begins (n .0) c ⌝ }
 {
-    if c.count > 24 {
+    if c.count > CHANNEL_PLACES {
         return false;
     }
     if !within_limits(t, c) {
@@ -188,11 +198,11 @@ fn is_sound_count(t: Table, a: Agent, n: u16) -> bool
     n == 0
 }
 
-fn are_sound_counts(t: Table, begins: [u16; 32]) -> bool
+fn are_sound_counts(t: Table, begins: [u16; MOST_AGENTS]) -> bool
     ensures { λ r. ⌜ r ≡ all-from 0 (sound-count t) begins ⌝ }
 {
     let mut a: u8 = 0;
-    while a < 32 {
+    while a < MOST_AGENTS_U8 {
         let i = a as usize;
         if !is_sound_count(t, Agent(a), begins[i]) {
             return false;
@@ -214,7 +224,7 @@ pub fn is_sound(s: State) -> bool
     let ways = ladder(t);
     let begins = s.begins;
     let mut n: u8 = 0;
-    while n < 62 {
+    while n < MOST_CHANNELS_U8 {
         let i = n as usize;
         let c = s.channels[i];
         if !is_sound_channel(t, &ways, begins, Chan(n), c) {

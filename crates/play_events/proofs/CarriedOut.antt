@@ -1,4 +1,4 @@
--- A plan carried out is the step: its changes of channels are the event's effects, and every list on the way fits its 24
+-- A plan carried out is the step: its changes of channels are the event's effects, and every list on the way fits its
 -- places, since changes that come before the last only take out or mark.
 use Prim.Native.Nat.{ℕ, zero, suc, _+_, _<_, _≤_}
 use mathlib.Core.Path.{_≡_, refl, ap, sym, subst, _∙_}
@@ -30,6 +30,7 @@ use Rattle.queue.specs.declared.Change.the-variants.{Nothing, Add, TakeOut, Mar
 use Rattle.queue.specs.Entries.{P, R, C, is-named, as-kind, gone, marking}
 use Rattle.queue.specs.Queues.{stands}
 use Rattle.queue.specs.code.Changes.{changes}
+use Rattle.queue.specs.Packing.{channel-places}
 use Rattle.queue.proofs.Matching.{found-by-its-name}
 use Rattle.queue.proofs.Lengths.{changes-length, nothing-length, take-out-length, take-matching-length, mark-length}
 use Rattle.network.specs.declared.State.{State}
@@ -39,7 +40,7 @@ use Rattle.network.specs.code.Acts.{act, acted-on, counted}
 use Rattle.network.specs.Edits.{Edit, add, change, raise, edit, edits}
 use Rattle.network.proofs.Acts.{acted-packed, counted-same}
 use Rattle.network.proofs.Good.{Good}
-use Rattle.network.proofs.Rules.{at-most-24}
+use Rattle.network.proofs.Rules.{within-its-places}
 use Rattle.events.specs.declared.Event.{Event}
 use Rattle.events.specs.declared.Event.the-variants.{BeginPosted, BeginRead, BeginWrite, Commit, Post, Latch, Complete, DropRequest, DropCompletion}
 use Rattle.events.specs.declared.Decoded.the-variants.{Known}
@@ -88,21 +89,21 @@ added N x n = refl
 -- ---- lists that fit
 
 abbrev pub Small : Net → Type 0
-Small n = (N : Chan) → length (waiting n N) ≤ 24
+Small n = (N : Chan) → length (waiting n N) ≤ channel-places
 
 -- a change that makes no list longer keeps them so
 shrunk : (n : Net) (a : Act) → ((l : List Entry) → length (changes (a .change) l) ≤ length l) → Small n → Small (act a n)
 unfolding act
 shrunk n a h small N =
-    modify-every (λ j l. length l ≤ 24) (n .chans) (a .at .0) (changes (a .change)) []
+    modify-every (λ j l. length l ≤ channel-places) (n .chans) (a .at .0) (changes (a .change)) []
     (λ k. le-trans (h (waiting n (a .at))) k) (λ j. small (chan j)) (N .0)
 
 -- where the lists fit after a change, the changed one does
-fits-after : (n : Net) (a : Act) → Small (act a n) → length (changes (a .change) (waiting n (a .at))) ≤ 24
+fits-after : (n : Net) (a : Act) → Small (act a n) → length (changes (a .change) (waiting n (a .at))) ≤ channel-places
 unfolding act
 fits-after n a small =
     split (ltb (a .at .0) (length (n .chans)))
-    (λ h. subst (λ (l : List Entry). length l ≤ 24) (modify-here (n .chans) (a .at .0) (changes (a .change)) [] (ltb-true (a .at .0) (length (n .chans)) h)) (small (a .at)))
+    (λ h. subst (λ (l : List Entry). length l ≤ channel-places) (modify-here (n .chans) (a .at .0) (changes (a .change)) [] (ltb-true (a .at .0) (length (n .chans)) h)) (small (a .at)))
     (λ h.
     let e : waiting n (a .at) ≡ [] = List·getD-eq-default (n .chans) [] (ltb-false (a .at .0) (length (n .chans)) h) in
     let k = changes-length (a .change) (waiting n (a .at)) in
@@ -368,10 +369,10 @@ module _ (s : Net) where
 
 module _ (s : Net) (g : Good s) where
   pub small : Small s
-  small N = at-most-24 s (g .rules) N
+  small N = within-its-places s (g .rules) N
 
   pub small-after : (e : Event) → Accepted s e → Small (after s e)
-  small-after e ok N = at-most-24 (after s e) (rules-stay s g e ok .rules) N
+  small-after e ok N = within-its-places (after s e) (rules-stay s g e ok .rules) N
 
   -- ---- a refused plan changes nothing
 

@@ -10,6 +10,8 @@ use Rattle.chassis.specs.declared.NextPlace.{NextPlace}
 use Rattle.chassis.specs.declared.Table.{Table}
 use Rattle.chassis.specs.Channels.{has-chan}
 use Rattle.chassis.specs.Tables.{table-passes}
+use Rattle.chassis.specs.Capacities.{most-agents, most-channels}
+use Rattle.find_routes.proofs.Places.{agent-low}
 use Rattle.queue.specs.declared.Look.{Look}
 use Rattle.queue.specs.Packing.{live}
 use Rattle.network.specs.declared.State.{State}
@@ -27,7 +29,7 @@ use Rattle.read_events.specs.Sights.{small}
 use Rattle.read_events.specs.Sights.{next-told}
 use Rattle.play_events.specs.Notices.{look-told, Aimed, beside, notice, told-plan}
 use Rattle.play_events.proofs.Shown.{Pointed, points, plan-right}
-use Rattle.read_events.proofs.Onward.{one-of-62, one-of-32, Onward, told-onward, onward-small, ahead-there, answer-there, back-there}
+use Rattle.read_events.proofs.Onward.{chan-low, Onward, told-onward, onward-small, ahead-there, answer-there, back-there}
 use Rattle.play_events.proofs.There.{Reached, plan-there}
 use Rattle.play_events.proofs.Carried.{table-of, target-is}
 
@@ -36,24 +38,24 @@ pub record Framed (s : State) (f : Frame) : Type 0 where
   pub passes : table-passes (s .table) ≡ true
   pub has-at : has-chan (s .table) (f .at) ≡ true
   pub named : has-chan (s .table) (account (f .event) .channel) ≡ true
-  pub at : f .at .0 < 62
+  pub at : f .at .0 < most-channels
   pub number : account (f .event) .channel .0 < 255
-  pub master : f .master .0 < 32
+  pub master : f .master .0 < most-agents
   pub aimed : Aimed (s .table) (look-told f (live (channel-at s (f .at))))
 
 -- the channels beside its own
 pub record Noticed (n : Notice) : Type 0 where
-  pub ahead : n .ahead .0 < 62
-  pub answer : n .answer .0 < 62
-  pub back : n .back .0 < 62
+  pub ahead : n .ahead .0 < most-channels
+  pub answer : n .answer .0 < most-channels
+  pub back : n .back .0 < most-channels
   pub next : small (n .next)
 
 -- its plan, and the channels that it changes
 pub record Planned (s : State) (d : Decoded) (p : Plan) : Type 0 where
   pub is : p ≡ record-plan (view s) d
-  pub first : p .first .at .0 < 62
-  pub second : p .second .at .0 < 62
-  pub third : p .third .at .0 < 62
+  pub first : p .first .at .0 < most-channels
+  pub second : p .second .at .0 < most-channels
+  pub third : p .third .at .0 < most-channels
 
 module _ (s : State) (r : Right s) (d : Decoded) (f : Frame) (isf : f ≡ frame (s .table) d) where
   abbrev T : Table
@@ -67,7 +69,7 @@ module _ (s : State) (r : Right s) (d : Decoded) (f : Frame) (isf : f ≡ frame 
 
   pub framed : Framed s f
   framed =
-      let h = one-of-62 T ok (f .at) (pointed .has-at) in
+      let h = chan-low T ok (f .at) (pointed .has-at) in
       let e : f .at .0 ≡ account (f .event) .channel .0 = ap (λ (x : Chan). x .0) (pointed .at) in
       record {
         passes = ok;
@@ -75,7 +77,7 @@ module _ (s : State) (r : Right s) (d : Decoded) (f : Frame) (isf : f ≡ frame 
         named = subst (λ (x : Chan). has-chan T x ≡ true) (pointed .at) (pointed .has-at);
         at = h;
         number = omega arith;
-        master = one-of-32 T ok (f .master) (pointed .has-master);
+        master = agent-low T ok (f .master) (pointed .has-master);
         aimed = target-is s r (f .at) (account (f .event) .kind) (account (f .event) .name) (look-told f (live (channel-at s (f .at)))) refl;
       }
 
@@ -95,9 +97,9 @@ module _ (s : State) (r : Right s) (d : Decoded) (f : Frame) (isf : f ≡ frame 
 
     pub noticed : Noticed n
     noticed = subst Noticed (sym beside-is) (record {
-      ahead = one-of-62 T ok (ahead-or (f .at) next) (ahead-there T ok (f .at) next (pointed .has-at) onward);
-      answer = one-of-62 T ok (answer-or T (f .at) next) (answer-there T ok (f .at) next (pointed .has-at) onward);
-      back = one-of-62 T ok (back-or T (f .at)) (back-there T ok (f .at) (pointed .has-at));
+      ahead = chan-low T ok (ahead-or (f .at) next) (ahead-there T ok (f .at) next (pointed .has-at) onward);
+      answer = chan-low T ok (answer-or T (f .at) next) (answer-there T ok (f .at) next (pointed .has-at) onward);
+      back = chan-low T ok (back-or T (f .at)) (back-there T ok (f .at) (pointed .has-at));
       next = onward-small T ok next onward;
     })
 
@@ -115,7 +117,7 @@ module _ (s : State) (r : Right s) (d : Decoded) (f : Frame) (isf : f ≡ frame 
         let q : Reached T p = subst (Reached T) (sym e) (plan-there (view s) ok d) in
         record {
           is = e;
-          first = one-of-62 T ok (p .first .at) (q .first);
-          second = one-of-62 T ok (p .second .at) (q .second);
-          third = one-of-62 T ok (p .third .at) (q .third);
+          first = chan-low T ok (p .first .at) (q .first);
+          second = chan-low T ok (p .second .at) (q .second);
+          third = chan-low T ok (p .third .at) (q .third);
         }

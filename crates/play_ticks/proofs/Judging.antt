@@ -17,6 +17,7 @@ use Rattle.base.proofs.Walks.{rest-on}
 use Rattle.base.proofs.Writing.{filled-on}
 use Rattle.chassis.specs.declared.Chan.{Chan}
 use Rattle.chassis.specs.declared.NextPlace.{NextPlace}
+use Rattle.chassis.specs.Capacities.{most-records}
 use Rattle.queue.specs.declared.Transaction.{Transaction}
 use Rattle.queue.specs.Entries.{R}
 use Rattle.queue.specs.Queues.{stands}
@@ -103,18 +104,18 @@ module _ (s : Net) (r : List ℕ) (many : ℕ) where
   pub record Judging (all : List Turn) (i : ℕ) : Type 0 where
     pub within : i ≤ many
     pub count : many ≡ length r / 8
-    pub few : many ≤ 63
-    pub long : length all ≡ 63
+    pub few : many ≤ most-records
+    pub long : length all ≡ most-records
     pub clear : first-refused s i (drop i ds) ≡ first-refused s 0 ds
     pub made : turns-made s ds ≡ take i all ++ turns-made s (drop i ds)
-    pub left : drop i all ≡ drop i (replicate 63 no-turn)
+    pub left : drop i all ≡ drop i (replicate most-records no-turn)
 
-  pub judge-first : (all : List Turn) → many ≡ length r / 8 → many ≤ 63 → all ≡ replicate 63 no-turn → Judging all 0
+  pub judge-first : (all : List Turn) → many ≡ length r / 8 → many ≤ most-records → all ≡ replicate most-records no-turn → Judging all 0
   judge-first all h k e = record {
     within = omega arith;
     count = h;
     few = k;
-    long = ap length e ∙ length-replicate 63 no-turn;
+    long = ap length e ∙ length-replicate most-records no-turn;
     clear = refl;
     made = refl;
     left = e;
@@ -130,7 +131,7 @@ module _ (s : Net) (r : List ℕ) (many : ℕ) where
         let m : turns-made s ds ≡ take i all = j .made ∙ ap (take i all ++_) h ∙ append-nil (take i all) in
         let n : length (take i all) ≡ i = omega (arith, length-take i all) in
         sym (take-append-drop i all)
-        ∙ ap (take i all ++_) (j .left ∙ ap (λ (k : ℕ). drop k (replicate 63 no-turn)) (sym n))
+        ∙ ap (take i all ++_) (j .left ∙ ap (λ (k : ℕ). drop k (replicate most-records no-turn)) (sym n))
         ∙ sym (ap in-places m)
 
     module _ (more : i < many) (d : Decoded) (isd : d ≡ decoded (take 8 (drop (8 * i) r))) where
@@ -164,7 +165,7 @@ module _ (s : Net) (r : List ℕ) (many : ℕ) where
                 ∙ ap (λ (l : List Decoded). take i all ++ turns-made s l) left
                 ∙ ap (take i all ++_) (made-one n ∙ ap (λ (y : Turn). y ∷ turns-made s (drop (i + 1) ds)) (sym isx))
                 ∙ sym (filled-on all i x (turns-made s (drop (i + 1) ds)) (omega arith));
-            left = drop-set-lt (i + 1) all i x (omega arith) ∙ sym (drop-drop 1 i all) ∙ ap (drop 1) (j .left) ∙ drop-drop 1 i (replicate 63 no-turn);
+            left = drop-set-lt (i + 1) all i x (omega arith) ∙ sym (drop-drop 1 i all) ∙ ap (drop 1) (j .left) ∙ drop-drop 1 i (replicate most-records no-turn);
           }
 
       -- refused: it is the lowest, and no turn is made of it or behind it

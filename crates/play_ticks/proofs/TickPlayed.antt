@@ -8,6 +8,8 @@ use lib.ListN.{length, getD, take, drop, replicate, length-map}
 use lib.Seq.{getD-take, take-at}
 use Rattle.base.proofs.Logic.{split, there, true-false}
 use Rattle.base.proofs.Orders.{All}
+use Rattle.chassis.specs.Capacities.{most-record-bytes, most-records}
+use Rattle.find_routes.proofs.Places.{agent-low}
 use Rattle.network.specs.declared.State.{State}
 use Rattle.network.specs.Nets.{Net, view, pack}
 use Rattle.events.specs.declared.Event.{Event}
@@ -21,7 +23,7 @@ use Rattle.judge_events.specs.Plans.{record-plan}
 use Rattle.play_events.proofs.Carried.{table-of}
 use Rattle.play_events.proofs.Playing.{how-many}
 use Rattle.play_events.proofs.Shown.{points}
-use Rattle.read_events.proofs.Onward.{one-of-62, one-of-32}
+use Rattle.read_events.proofs.Onward.{chan-low}
 use Rattle.play_events.proofs.There.{plan-there}
 use Rattle.ticks.specs.declared.TickAnswer.{TickAnswer}
 use Rattle.ticks.specs.declared.TickAnswer.the-variants.{Accepted, Refused, Conflict}
@@ -50,10 +52,10 @@ module _ (s : State) (right : Right s) where
       let q = plan-there (view s) ok d in
       let p = record-plan (view s) d in
       record {
-        first = one-of-62 (s .table) ok (p .first .at) (q .first);
-        second = one-of-62 (s .table) ok (p .second .at) (q .second);
-        third = one-of-62 (s .table) ok (p .third .at) (q .third);
-        master = one-of-32 (s .table) ok (frame (s .table) d .master) (points s ok d (frame (s .table) d) refl .has-master);
+        first = chan-low (s .table) ok (p .first .at) (q .first);
+        second = chan-low (s .table) ok (p .second .at) (q .second);
+        third = chan-low (s .table) ok (p .third .at) (q .third);
+        master = agent-low (s .table) ok (frame (s .table) d .master) (points s ok d (frame (s .table) d) refl .has-master);
       }
 
   placed-at : (ds : List Decoded) (i : ℕ) → i < length ds → Placed (getD (map (turn (view s)) ds) i no-turn)
@@ -67,7 +69,7 @@ module _ (s : State) (right : Right s) where
 
 -- ---- past 16, 18 and 17
 
-module _ (s : State) (right : Right s) (b out : List ℕ) (whole : length b % 8 ≡ 0) (few : length b ≤ 504) (places : length b / 8 ≤ length out) where
+module _ (s : State) (right : Right s) (b out : List ℕ) (whole : length b % 8 ≡ 0) (few : length b ≤ most-record-bytes) (places : length b / 8 ≤ length out) where
   abbrev ds : List Decoded
   ds = records b
 
@@ -120,7 +122,7 @@ module _ (s : State) (right : Right s) (b out : List ℕ) (whole : length b % 8 
         let m = all-made (view s) ds (none-refused (view s) 0 ds alone) in
         let n : length (map (turn (view s)) ds) ≡ length b / 8 = length-map ds (turn (view s)) ∙ how-many b in
         ap (λ (ts : List Turn). take (length b / 8) (in-places ts)) m
-        ∙ take-at (map (turn (view s)) ds) (drop (length (map (turn (view s)) ds)) (replicate 63 no-turn)) (length b / 8) n
+        ∙ take-at (map (turn (view s)) ds) (drop (length (map (turn (view s)) ds)) (replicate most-records no-turn)) (length b / 8) n
 
     module _ (all : List Turn) (turns : take (length b / 8) all ≡ map (turn (view s)) ds) where
       turns-are : take (length b / 8) all ≡ map (turn (view s)) (map Known (orderly .events))

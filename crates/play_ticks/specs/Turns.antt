@@ -6,6 +6,7 @@ use mathlib.Core.Option.{Option, none, some}
 use lib.ListN.{length, getD, drop, replicate}
 use Rattle.base.specs.Grounds.{refusal}
 use Rattle.chassis.specs.Numbers.{agent}
+use Rattle.chassis.specs.Capacities.{most-agents, most-channels, most-records}
 use Rattle.network.specs.declared.State.{State}
 use Rattle.network.specs.Nets.{Net}
 use Rattle.network.specs.code.Acts.{acted-on, counted}
@@ -41,9 +42,9 @@ unfoldable pub turns-made : Net → List Decoded → List Turn
 turns-made s [] = []
 turns-made s (d ∷ ds) = unless-refused (refusal (record-grounds s d)) (turn s d ∷ turns-made s ds)
 
--- in the 63 places that a tick has for them
+-- in the places that a tick has for them
 abbrev pub in-places : List Turn → List Turn
-in-places ts = ts ++ drop (length ts) (replicate 63 no-turn)
+in-places ts = ts ++ drop (length ts) (replicate most-records no-turn)
 
 -- ---- what is answered
 
@@ -84,10 +85,10 @@ judged-answer s ds = refused-or (first-refused s 0 ds) (answer-by (first-pair s 
 
 -- the channels and the agent that a turn points to are places of a state
 pub record Placed (t : Turn) : Type 0 where
-  pub first : t .plan .first .at .0 < 62
-  pub second : t .plan .second .at .0 < 62
-  pub third : t .plan .third .at .0 < 62
-  pub master : t .master .0 < 32
+  pub first : t .plan .first .at .0 < most-channels
+  pub second : t .plan .second .at .0 < most-channels
+  pub third : t .plan .third .at .0 < most-channels
+  pub master : t .master .0 < most-agents
 
 unfoldable pub turned : State → Turn → State
 turned s t =

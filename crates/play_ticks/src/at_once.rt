@@ -1,6 +1,7 @@
 // The tick: on record bytes, whatever the state; and for whoever holds a sound state and has asked 18 and 17.
 use crate::turning::carry;
 use crate::turning::judge_all;
+use chassis::MOST_RECORD_BYTES;
 use network::State;
 use network::soundness::is_sound;
 use ticks::TickAnswer;
@@ -9,6 +10,7 @@ ghost use mathlib.Core.Path.{_≡_};
 ghost use mathlib.Core.Bool.{true};
 ghost use Prim.Native.Nat.{_/_, _%_, _≤_};
 ghost use lib.ListN.{length};
+ghost use Rattle.chassis.specs.Capacities.{most-record-bytes};
 ghost use Rattle.network.specs.Soundness.{sound};
 ghost use Rattle.ticks.specs.Ticks.{tick};
 ghost use Rattle.play_ticks.specs.Turns.{is-accepted};
@@ -30,7 +32,7 @@ pub fn is_accepted(a: TickAnswer) -> bool
 }
 
 pub fn play_tick(s: State, r: &[u8], answers: &mut [u16]) -> TickOutcome
-    requires { ⌜ (sound s ≡ true) × (length (now r) % 8 ≡ 0) × (length (now r) ≤ 504) × (length (now r) / 8 ≤ length (now answers)) ⌝ }
+    requires { ⌜ (sound s ≡ true) × (length (now r) % 8 ≡ 0) × (length (now r) ≤ most-record-bytes) × (length (now r) / 8 ≤ length (now answers)) ⌝ }
     ensures { λ q. ⌜ q .answer ≡ (tick s (now (r .entry)) (now (answers .entry))) .answer ⌝ }
     ensures { λ q. ⌜ q .state ≡ (tick s (now (r .entry)) (now (answers .entry))) .state ⌝ }
     ensures { λ q. ⌜ now (answers .exit) ≡ (tick s (now (r .entry)) (now (answers .entry))) .answers ⌝ }
@@ -66,7 +68,7 @@ pub fn tick(s: State, r: &[u8], answers: &mut [u16]) -> TickOutcome
     if r.len() % 8 != 0 {
         return refused(s, 18);
     }
-    if 504 < r.len() {
+    if MOST_RECORD_BYTES < r.len() {
         return refused(s, 18);
     }
     if answers.len() < r.len() / 8 {

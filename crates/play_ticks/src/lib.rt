@@ -5,6 +5,7 @@ pub mod pairs;
 pub mod turning;
 
 use chassis::Agent;
+use chassis::MOST_RECORDS;
 use compare_events::Foot;
 use judge_events::Plan;
 use ticks::TickAnswer;
@@ -17,7 +18,7 @@ pub struct Turn {
 }
 
 pub struct Turns {
-    pub all: [Turn; 63],
+    pub all: [Turn; MOST_RECORDS],
 }
 
 pub struct Judgement {

@@ -5,10 +5,11 @@ use ticks::TickAnswer;
 ghost use mathlib.Core.Path.{_≡_};
 ghost use Prim.Native.Nat.{_≤_};
 ghost use lib.ListN.{take};
+ghost use Rattle.chassis.specs.Capacities.{most-records};
 ghost use Rattle.play_ticks.specs.Turns.{answer-by, clash-pair, footings};
 
 pub fn first_pair(turns: Turns, n: usize) -> TickAnswer
-    requires { ⌜ n ≤ 63 ⌝ }
+    requires { ⌜ n ≤ most-records ⌝ }
     ensures { λ r. ⌜ r ≡ answer-by (clash-pair 0 (footings (take n (turns .all)))) ⌝ }
 {
     let mut i: usize = 0;

@@ -4,6 +4,7 @@ use crate::Turn;
 use crate::Turns;
 use crate::pairs::first_pair;
 use chassis::Agent;
+use chassis::MOST_RECORDS;
 use check_tables::labels::ladder;
 use compare_events::feet::foot_of;
 use compare_events::feet::no_foot;
@@ -20,6 +21,7 @@ ghost use mathlib.Core.Bool.{true};
 ghost use mathlib.Core.List.{_++_};
 ghost use Prim.Native.Nat.{ℕ, _<_, _≤_};
 ghost use lib.ListN.{length, getD, take, drop};
+ghost use Rattle.chassis.specs.Capacities.{most-record-bytes, most-records};
 ghost use Rattle.network.specs.Nets.{view};
 ghost use Rattle.network.specs.Soundness.{sound};
 ghost use Rattle.events.specs.Records.{records};
@@ -39,11 +41,11 @@ fn no_turn() -> Turn
 
 // One state is read, and none is stored into.
 pub fn judge_all(s: State, r: &[u8]) -> Judgement
-    requires { ⌜ (sound s ≡ true) × (length (now r) ≤ 504) ⌝ }
+    requires { ⌜ (sound s ≡ true) × (length (now r) ≤ most-record-bytes) ⌝ }
     ensures { λ q. ⌜ q .answer ≡ judged-answer (view s) (records (now (r .entry))) ⌝ }
     ensures { λ q. ⌜ q .turns .all ≡ in-places (turns-made (view s) (records (now (r .entry)))) ⌝ }
 {
-    let mut turns: [Turn; 63] = [no_turn(); 63];
+    let mut turns: [Turn; MOST_RECORDS] = [no_turn(); MOST_RECORDS];
     let many = r.len() / 8;
     let t = s.table;
     let ways = ladder(t);
@@ -87,7 +89,7 @@ pub fn judge_all(s: State, r: &[u8]) -> Judgement
 
 // Plan after plan, with nothing asked again; the values go to the lent list.
 pub fn carry(s: State, turns: Turns, n: usize, answers: &mut [u16]) -> State
-    requires { ⌜ (n ≤ 63) × (n ≤ length (now answers)) × ((i : ℕ) → i < n → Placed (getD (turns .all) i no-turn)) ⌝ }
+    requires { ⌜ (n ≤ most-records) × (n ≤ length (now answers)) × ((i : ℕ) → i < n → Placed (getD (turns .all) i no-turn)) ⌝ }
     ensures { λ q. ⌜ q ≡ all-turned s (take n (turns .all)) ⌝ }
     ensures { λ q. ⌜ now (answers .exit) ≡ turn-values (take n (turns .all)) ++ drop n (now (answers .entry)) ⌝ }
 {

@@ -19,7 +19,7 @@ use Rattle.queue.specs.declared.Found.the-variants as found
 use Rattle.queue.specs.declared.Change.{Change}
 use Rattle.queue.specs.declared.Change.the-variants.{Nothing, Add, TakeOut, TakeMatching, Mark}
 use Rattle.queue.specs.Entries.{C, is-named, matches, marked, gone, marking, zero-entry, is-zero-entry}
-use Rattle.queue.specs.Packing.{live, packed, zero-channel}
+use Rattle.queue.specs.Packing.{live, packed, zero-channel, channel-places}
 use Rattle.queue.specs.code.Changes.{changes}
 use Rattle.queue.specs.code.Methods.{place-from, place-of, place-of-matching, added-to, removed-at, marked-at, at-place, changed-to}
 use Rattle.queue.proofs.Placed.{placed, not-placed}
@@ -55,30 +55,30 @@ zero-entry-is x h =
 channel-path : {e e′ : List Entry} {n n′ : ℕ} → e ≡ e′ → n ≡ n′ → _≡_ {A = Channel} (record { entries = e; count = n }) (record { entries = e′; count = n′ })
 channel-path p q = λ i. record { entries = p i; count = q i }
 
-pub packed-live : (c : Channel) → length (c .entries) ≡ 24 → c .count ≤ 24 → all is-zero-entry (drop (c .count) (c .entries)) ≡ true → c ≡ packed (live c)
+pub packed-live : (c : Channel) → length (c .entries) ≡ channel-places → c .count ≤ channel-places → all is-zero-entry (drop (c .count) (c .entries)) ≡ true → c ≡ packed (live c)
 packed-live c long few zeros =
     let held : length (live c) ≡ c .count = simp length-take (omega arith) in
-    let rest : length (drop (c .count) (c .entries)) ≡ 24 - length (live c) = rw held (simp length-drop (omega arith)) in
+    let rest : length (drop (c .count) (c .entries)) ≡ channel-places - length (live c) = rw held (simp length-drop (omega arith)) in
     let filling = all-filled is-zero-entry zero-entry zero-entry-is (drop (c .count) (c .entries)) zeros in
     channel-path
     (sym (take-append-drop (c .count) (c .entries)) ∙ ap (live c ++_) (filling ∙ ap (λ n. replicate n zero-entry) rest))
     (sym held)
 
-pub unused-of-packed : (l : List Entry) → length l ≤ 24 → all is-zero-entry (drop (packed l .count) (packed l .entries)) ≡ true
+pub unused-of-packed : (l : List Entry) → length l ≤ channel-places → all is-zero-entry (drop (packed l .count) (packed l .entries)) ≡ true
 unfolding is-zero-entry
-unused-of-packed l h = rw drop-append-seam (filled-all is-zero-entry zero-entry refl (24 - length l))
+unused-of-packed l h = rw drop-append-seam (filled-all is-zero-entry zero-entry refl (channel-places - length l))
 
-added-packed : (x : Entry) (l : List Entry) → length l < 24 → added-to (packed l) x ≡ packed (l ++ (x ∷ []))
+added-packed : (x : Entry) (l : List Entry) → length l < channel-places → added-to (packed l) x ≡ packed (l ++ (x ∷ []))
 unfolding added-to
-added-packed x l h = rw (lt-ltb (length l) 24 h) (channel-path (add-pad zero-entry 24 l x h) (sym (length-append l (x ∷ []))))
+added-packed x l h = rw (lt-ltb (length l) channel-places h) (channel-path (add-pad zero-entry channel-places l x h) (sym (length-append l (x ∷ []))))
 
-removed-packed : (l : List Entry) (i : ℕ) → i < length l → length l ≤ 24 → removed-at (packed l) i ≡ packed (without i l)
+removed-packed : (l : List Entry) (i : ℕ) → i < length l → length l ≤ channel-places → removed-at (packed l) i ≡ packed (without i l)
 unfolding removed-at
-removed-packed l i h k = channel-path (gap-pad zero-entry 24 l i h k) (sym (length-without l i h))
+removed-packed l i h k = channel-path (gap-pad zero-entry channel-places l i h k) (sym (length-without l i h))
 
 marked-packed : (l : List Entry) (i : ℕ) → i < length l → marked-at (packed l) i ≡ packed (set l i (marked (getD l i zero-entry)))
 unfolding marked-at
-marked-packed l i h = rw List·getD-append (channel-path (set-pad zero-entry 24 l i (marked (getD l i zero-entry)) h) (sym (length-set l i (marked (getD l i zero-entry)))))
+marked-packed l i h = rw List·getD-append (channel-path (set-pad zero-entry channel-places l i (marked (getD l i zero-entry)) h) (sym (length-set l i (marked (getD l i zero-entry)))))
 
 -- a change at the place that is found is the alteration of the first that passes
 at-packed : (p : Entry → Bool) (f : Entry → List Entry) (to : Channel → ℕ → Channel) (l : List Entry)
@@ -90,7 +90,7 @@ at-packed p f to l h (found.At j) e =
     let s : j ≡ r .k = omega (arith, r .after) in
     rw s (h (r .k) (r .inside) ∙ ap packed (sym (r .alters f)))
 
-pub changed-packed : (ch : Change) (l : List Entry) → length l ≤ 24 → length (changes ch l) ≤ 24 → changed-to (packed l) ch ≡ packed (changes ch l)
+pub changed-packed : (ch : Change) (l : List Entry) → length l ≤ channel-places → length (changes ch l) ≤ channel-places → changed-to (packed l) ch ≡ packed (changes ch l)
 unfolding changed-to changes place-of place-of-matching
 changed-packed Nothing l h k = refl
 changed-packed (Add x) l h k = added-packed x l (omega (arith, simp length-append at k))

@@ -13,7 +13,7 @@ use Rattle.queue.specs.declared.Channel.{Channel}
 use Rattle.queue.specs.declared.Found.{Found}
 use Rattle.queue.specs.declared.Found.the-variants.{At, Nothing}
 use Rattle.queue.specs.Entries.{zero-entry}
-use Rattle.queue.specs.Packing.{live}
+use Rattle.queue.specs.Packing.{live, channel-places}
 use Rattle.queue.specs.code.Methods.{place-from}
 
 -- place j, when the search begins at i, is the k-th of l
@@ -43,7 +43,7 @@ not-placed p i (x ∷ l) h f =
     (λ t. absurd (nothing-at {j = i} h (rw t)))
     (λ n. rw n (ap (x ∷_) (not-placed p (suc i) l (rw n at h) f)))
 
-pub place-bound : (p : Entry → Bool) (c : Channel) {j : ℕ} → length (c .entries) ≡ 24 → place-from 0 p (live c) ≡ At j → j < 24
+pub place-bound : (p : Entry → Bool) (c : Channel) {j : ℕ} → length (c .entries) ≡ channel-places → place-from 0 p (live c) ≡ At j → j < channel-places
 place-bound p c {j} long h =
     let r = placed p 0 (live c) h in
     let b = simp length-take at (r .inside) in

@@ -6,7 +6,7 @@ ghost use lib.ListN.{drop};
 ghost use Rattle.base.specs.Lists.{all};
 ghost use Rattle.queue.specs.Entries.{zero-entry, is-kind, is-named, marked, as-kind, is-zero-entry};
 ghost use Rattle.queue.specs.Queues.{filling, first-C};
-ghost use Rattle.queue.specs.Packing.{live, zero-channel};
+ghost use Rattle.queue.specs.Packing.{live, zero-channel, channel-places};
 ghost use Rattle.queue.specs.code.Changes.{look-of, match-of, dull};
 ghost use Rattle.queue.specs.code.Methods.{place-of, place-of-matching, added-to, removed-at, marked-at, changed-to};
 
@@ -26,9 +26,14 @@ pub struct Entry {
     pub committed: bool,
 }
 
-// Up to 24 entries, oldest first, and their number.
+// A channel holds up to 24 entries.
+pub const CHANNEL_PLACES: usize = 24;
+
+const LAST_PLACE: usize = CHANNEL_PLACES - 1;
+
+// Its entries, oldest first, and their number.
 pub struct Channel {
-    pub entries: [Entry; 24],
+    pub entries: [Entry; CHANNEL_PLACES],
     pub count: usize,
 }
 
@@ -149,9 +154,13 @@ impl Look {
 
 // How many places a walk goes through: a channel that is not sound may claim more entries than it has places.
 fn places(count: usize) -> usize
-    ensures { λ r. ⌜ r ≡ min count 24 ⌝ }
+    ensures { λ r. ⌜ r ≡ min count channel-places ⌝ }
 {
-    if count < 24 { count } else { 24 }
+    if count < CHANNEL_PLACES {
+        count
+    } else {
+        CHANNEL_PLACES
+    }
 }
 
 // A channel that is not sound may hold an entry and count none.
@@ -167,7 +176,7 @@ impl Channel {
     {
         let z = Entry::none();
         Channel {
-            entries: [z; 24],
+            entries: [z; CHANNEL_PLACES],
             count: 0,
         }
     }
@@ -259,12 +268,12 @@ impl Channel {
         false
     }
 
-    // Behind all others. A channel with 24 entries stays as it is, so that no caller has to show that there is room.
+    // Behind all others. A channel that has no place left stays as it is, so that no caller has to show that there is room.
     pub fn added(mut self, x: Entry) -> Channel
         ensures { λ r. ⌜ r ≡ added-to self x ⌝ }
     {
         let n = self.count;
-        if n < 24 {
+        if n < CHANNEL_PLACES {
             self.entries[n] = x;
             self.count = n + 1;
         }
@@ -273,24 +282,24 @@ impl Channel {
 
     // The gap goes to the end of the array and not of the live entries: so the unused places need not be known to be zero.
     pub fn removed(mut self, i: usize) -> Channel
-        requires { ⌜ i < 24 ⌝ }
+        requires { ⌜ i < channel-places ⌝ }
         ensures { λ r. ⌜ r ≡ removed-at self i ⌝ }
     {
         let n = self.count;
         let mut gap = i;
-        while gap < 23 {
+        while gap < LAST_PLACE {
             let x = self.entries[gap + 1];
             self.entries[gap] = x;
             gap += 1;
         }
         let z = Entry::none();
-        self.entries[23] = z;
+        self.entries[LAST_PLACE] = z;
         self.count = one_less(n);
         self
     }
 
     pub fn marked_at(mut self, i: usize) -> Channel
-        requires { ⌜ i < 24 ⌝ }
+        requires { ⌜ i < channel-places ⌝ }
         ensures { λ r. ⌜ r ≡ marked-at self i ⌝ }
     {
         let x = self.entries[i];
@@ -333,7 +342,7 @@ impl Channel {
         ensures { λ r. ⌜ r ≡ all is-zero-entry (drop (self .count) (self .entries)) ⌝ }
     {
         let mut i = self.count;
-        while i < 24 {
+        while i < CHANNEL_PLACES {
             let x = self.entries[i];
             let zero = x.is_zero();
             if !zero {

@@ -1,5 +1,5 @@
 -- Where a record leads on a table that passes: the next place is the target or a bridge channel, and every channel that is looked at
--- is one of the 62.
+-- is one of those that a state has.
 use Prim.Native.Nat.{ℕ, _<_}
 use mathlib.Core.Path.{_≡_, refl}
 use mathlib.Core.Bool.{Bool, true, false}
@@ -11,9 +11,10 @@ use Rattle.chassis.specs.declared.Chan.{Chan}
 use Rattle.chassis.specs.declared.Table.{Table}
 use Rattle.chassis.specs.declared.NextPlace.{NextPlace}
 use Rattle.chassis.specs.declared.NextPlace.the-variants.{Target, Through}
-use Rattle.chassis.specs.Channels.{has-agent, has-chan, chan-count, is-master, opposite}
+use Rattle.chassis.specs.Channels.{has-chan, chan-count, is-master, opposite}
 use Rattle.chassis.specs.Routes.{next-place}
 use Rattle.chassis.specs.Tables.{table-passes}
+use Rattle.chassis.specs.Capacities.{most-channels}
 use Rattle.chassis.proofs.Counts.{counts}
 use Rattle.chassis.proofs.Passing.{passed}
 use Rattle.chassis.proofs.Hops.{opposing}
@@ -31,18 +32,12 @@ by-place Target f g = f refl
 by-place (Through X) f g = g X refl
 
 module _ (T : Table) (ok : table-passes T ≡ true) where
-  pub one-of-62 : (N : Chan) → has-chan T N ≡ true → N .0 < 62
-  one-of-62 N h =
+  pub chan-low : (N : Chan) → has-chan T N ≡ true → N .0 < most-channels
+  chan-low N h =
       let c = counts T (passed T ok .counts) in
       let a = c .agents .1 in
       let b = c .bridges .1 in
       let k = ltb-true (N .0) (chan-count T) h in
-      omega arith
-
-  pub one-of-32 : (a : Agent) → has-agent T a ≡ true → a .0 < 32
-  one-of-32 a h =
-      let c = counts T (passed T ok .counts) .agents .1 in
-      let k = ltb-true (a .0) (T .agents) h in
       omega arith
 
   -- N1 is the target, or a bridge channel of the table
@@ -63,7 +58,7 @@ module _ (T : Table) (ok : table-passes T ≡ true) where
 
   pub onward-small : (n : NextPlace) → Onward n → small n
   onward-small Target o = tt
-  onward-small (Through X) o = let k = one-of-62 X (o .0) in omega arith
+  onward-small (Through X) o = let k = chan-low X (o .0) in omega arith
 
   pub ahead-there : (N : Chan) (n : NextPlace) → has-chan T N ≡ true → Onward n → has-chan T (ahead-or N n) ≡ true
   ahead-there N Target h o = h

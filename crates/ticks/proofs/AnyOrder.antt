@@ -10,6 +10,7 @@ use lib.Seq.{take-at, drop-at}
 use Rattle.base.specs.Lists.{parts}
 use Rattle.base.proofs.Orders.{All, Order, order-length, order-map, order-unmap, paired, paired-map}
 use Rattle.base.proofs.Writing.{length-parts}
+use Rattle.chassis.specs.Capacities.{most-record-bytes}
 use Rattle.network.specs.declared.State.{State}
 use Rattle.network.specs.Nets.{view, pack}
 use Rattle.network.specs.Shapes.{Shaped}
@@ -113,7 +114,7 @@ module _ (s : State) (w : Shaped s) (b c out other : List ℕ) (ok : (tick s b o
       let r = order-unmap Known (order-map decoded same) (o .events) (o .known) in
       let p : Orderly (view s) c = record { events = r .0; known = r .1; agreeing = agrees-too (view s) (r .2) (o .agreeing) } in
       let n : length b / 8 ≡ length c / 8 = sym (length-parts (length b / 8) 8 b) ∙ order-length same ∙ length-parts (length c / 8) 8 c in
-      let few : length c ≤ 504 = omega (arith, n, whole, a .few) in
+      let few : length c ≤ most-record-bytes = omega (arith, n, whole, a .few) in
       let yes = tick-accepts-exactly s w (a .is-sound) c other whole few places .1 p in
       let end = same-end (view s) (sound-is-good s w (a .is-sound) .rules .passes) (r .2) (o .agreeing) in
       let u : (tick s c other) .state ≡ (tick s b out) .state =

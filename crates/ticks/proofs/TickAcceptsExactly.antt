@@ -11,6 +11,7 @@ use lib.ListN.{length, drop, length-take, length-drop}
 use Rattle.base.specs.Lists.{parts}
 use Rattle.base.specs.Grounds.{refusal}
 use Rattle.base.proofs.Orders.{All}
+use Rattle.chassis.specs.Capacities.{most-record-bytes}
 use Rattle.network.specs.declared.State.{State}
 use Rattle.network.specs.Nets.{Net, view, pack}
 use Rattle.network.specs.Soundness.{sound}
@@ -145,7 +146,7 @@ module _ (s : State) (b out : List ℕ) where
       by _ (accepted es g w p) e = record { no-ground = g; orderly = record { events = es; known = w .known; agreeing = record { alone = w .alone; apart = p } } }
 
 module _ (s : State) (w : Shaped s) (h : sound s ≡ true) (b out : List ℕ)
-    (whole : length b % 8 ≡ 0) (few : length b ≤ 504) (places : length b / 8 ≤ length out) where
+    (whole : length b % 8 ≡ 0) (few : length b ≤ most-record-bytes) (places : length b / 8 ≤ length out) where
   abbrev so : Orderly (view s) b → Acceptable s b out
   so o = record { no-ground = no-tick-ground s b out .1 (record { is-sound = h; whole = whole; few = few; places = places }); orderly = o }
 

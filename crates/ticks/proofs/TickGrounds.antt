@@ -11,6 +11,7 @@ use lib.Dec.{eqb, ltb}
 use lib.ListN.{length}
 use Rattle.base.specs.Grounds.{refusal}
 use Rattle.base.proofs.Logic.{split, none-some}
+use Rattle.chassis.specs.Capacities.{most-record-bytes}
 use Rattle.network.specs.declared.State.{State}
 use Rattle.network.specs.Soundness.{sound}
 use Rattle.ticks.specs.Ticks.{tick-grounds}
@@ -21,15 +22,15 @@ pub data TickGround (s : State) (b out : List ℕ) : ℕ → Type 0 where
   not-sound : sound s ≡ false → TickGround s b out 16
   -- 18: the bytes are not whole records, or those of more than 63
   not-eights : sound s ≡ true → (length b % 8 ≡ 0 → ⊥) → TickGround s b out 18
-  too-many : sound s ≡ true → length b % 8 ≡ 0 → 504 < length b → TickGround s b out 18
+  too-many : sound s ≡ true → length b % 8 ≡ 0 → most-record-bytes < length b → TickGround s b out 18
   -- 17: the answer list is shorter than the number of records
-  too-short : sound s ≡ true → length b % 8 ≡ 0 → length b ≤ 504 → length out < length b / 8 → TickGround s b out 17
+  too-short : sound s ≡ true → length b % 8 ≡ 0 → length b ≤ most-record-bytes → length out < length b / 8 → TickGround s b out 17
 
 -- none holds
 pub record Admitted (s : State) (b out : List ℕ) : Type 0 where
   pub is-sound : sound s ≡ true
   pub whole : length b % 8 ≡ 0
-  pub few : length b ≤ 504
+  pub few : length b ≤ most-record-bytes
   pub places : length b / 8 ≤ length out
 
 module _ (s : State) (b out : List ℕ) where
@@ -37,21 +38,21 @@ module _ (s : State) (b out : List ℕ) where
   unfolding tick-grounds
   holds _ (not-sound h) = rw h
   holds _ (not-eights h k) = rw (h, ne-eqb (length b % 8) 0 k)
-  holds _ (too-many h k l) = rw (h, eq-eqb (length b % 8) 0 k, lt-ltb 504 (length b) l)
-  holds _ (too-short h k l m) = rw (h, eq-eqb (length b % 8) 0 k, le-ltb 504 (length b) l, lt-ltb (length out) (length b / 8) m)
+  holds _ (too-many h k l) = rw (h, eq-eqb (length b % 8) 0 k, lt-ltb most-record-bytes (length b) l)
+  holds _ (too-short h k l m) = rw (h, eq-eqb (length b % 8) 0 k, le-ltb most-record-bytes (length b) l, lt-ltb (length out) (length b / 8) m)
 
   none-holds : Admitted s b out → refusal (tick-grounds s b out) ≡ none
   unfolding tick-grounds
   none-holds a =
-      rw (a .is-sound, eq-eqb (length b % 8) 0 (a .whole), le-ltb 504 (length b) (a .few), le-ltb (length out) (length b / 8) (a .places))
+      rw (a .is-sound, eq-eqb (length b % 8) 0 (a .whole), le-ltb most-record-bytes (length b) (a .few), le-ltb (length out) (length b / 8) (a .places))
 
   one-or-none : ((n : ℕ) × TickGround s b out n) ⊎ Admitted s b out
   one-or-none =
       split (sound s)
       (λ h. split (eqb (length b % 8) 0)
-      (λ k. let w = eqb-true (length b % 8) 0 k in split (ltb 504 (length b))
-      (λ l. inl (18, too-many h w (ltb-true 504 (length b) l)))
-      (λ l. let f = ltb-false 504 (length b) l in split (ltb (length out) (length b / 8))
+      (λ k. let w = eqb-true (length b % 8) 0 k in split (ltb most-record-bytes (length b))
+      (λ l. inl (18, too-many h w (ltb-true most-record-bytes (length b) l)))
+      (λ l. let f = ltb-false most-record-bytes (length b) l in split (ltb (length out) (length b / 8))
       (λ m. inl (17, too-short h w f (ltb-true (length out) (length b / 8) m)))
       (λ m. inr (record { is-sound = h; whole = w; few = f; places = ltb-false (length out) (length b / 8) m }))))
       (λ k. inl (18, not-eights h (eqb-false (length b % 8) 0 k))))

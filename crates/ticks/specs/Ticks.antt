@@ -6,6 +6,7 @@ use mathlib.Core.Option.{Option, none, some}
 use lib.ListN.{length, drop}
 use lib.Dec.{ltb, eqb}
 use Rattle.base.specs.Grounds.{Ground, _when_, refusal}
+use Rattle.chassis.specs.Capacities.{most-record-bytes}
 use Rattle.network.specs.declared.State.{State}
 use Rattle.network.specs.Nets.{Net, view, pack}
 use Rattle.network.specs.Soundness.{sound}
@@ -89,7 +90,7 @@ ticked s out es = record {
 unfoldable pub tick-grounds : State → List ℕ → List ℕ → List Ground
 tick-grounds s b out =
     16 when not (sound s)
-    ∷ 18 when (not (eqb (length b % 8) 0) || ltb 504 (length b))
+    ∷ 18 when (not (eqb (length b % 8) 0) || ltb most-record-bytes (length b))
     ∷ 17 when ltb (length out) (length b / 8)
     ∷ []
 

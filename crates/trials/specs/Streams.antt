@@ -5,6 +5,7 @@ use mathlib.Core.Bool.{Bool, true, false}
 use lib.ListN.{length, getD, drop, set, replicate}
 use Rattle.chassis.specs.declared.Table.{Table}
 use Rattle.chassis.specs.Numbers.{agent, bus}
+use Rattle.chassis.specs.Capacities.{most-agents, most-channels}
 use Rattle.queue.specs.declared.Entry.{Entry}
 use Rattle.queue.specs.Entries.{P, R, C}
 use Rattle.network.specs.declared.State.{State}
@@ -99,13 +100,13 @@ table L = record {
   agents = getD (L .numbers) 2 0;
   limits = drop 3 (L .numbers);
   pairs = bridge-records (padded 30 (L .pairs));
-  homes = map bus (padded 32 (L .homes));
+  homes = map bus (padded most-agents (L .homes));
 }
 
 -- the state in which just this stands, and with these counts
 unfoldable pub state-with : Layout → List Standing → List ℕ → State
 state-with L xs counts = pack (record {
   table = table L;
-  chans = placed (replicate 62 []) xs;
-  begins = padded 32 counts;
+  chans = placed (replicate most-channels []) xs;
+  begins = padded most-agents counts;
 })

@@ -4,6 +4,7 @@
 use chassis::Agent;
 use chassis::Bridge;
 use chassis::Bus;
+use chassis::MOST_AGENTS;
 use chassis::Table;
 use events::Answer;
 use events::Event;
@@ -30,7 +31,7 @@ fn table() -> Table {
             first: Bus(0),
             second: Bus(0),
         }; 15],
-        homes: [Bus(0); 32],
+        homes: [Bus(0); MOST_AGENTS],
     }
 }
 

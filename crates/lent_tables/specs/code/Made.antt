@@ -10,6 +10,7 @@ use Rattle.chassis.specs.declared.Table.{Table}
 use Rattle.chassis.specs.Numbers.{bus}
 use Rattle.chassis.specs.Channels.{no-bridge}
 use Rattle.chassis.specs.Tables.{bridges-of}
+use Rattle.chassis.specs.Capacities.{most-agents}
 use Rattle.lent_tables.specs.declared.Numbers.{Numbers}
 use Rattle.lent_tables.specs.declared.Joined.{Joined}
 use Rattle.lent_tables.specs.declared.Joined.the-variants as joined-variants
@@ -32,7 +33,7 @@ empty m = record {
   agents = 0;
   limits = m .limits;
   pairs = replicate 15 no-bridge;
-  homes = replicate 32 (bus 0);
+  homes = replicate most-agents (bus 0);
 }
 
 abbrev pub bridge-added : Table → Bridge → Table
@@ -49,10 +50,10 @@ abbrev pub home-added : Table → Bus → Table
 home-added T b = record {
   buses = T .buses;
   bridges = T .bridges;
-  agents = count-on 32 (T .agents);
+  agents = count-on most-agents (T .agents);
   limits = T .limits;
   pairs = T .pairs;
-  homes = place-on 32 (T .agents) (T .homes) b;
+  homes = place-on most-agents (T .agents) (T .homes) b;
 }
 
 -- all records of a list, one after the other

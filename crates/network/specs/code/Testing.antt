@@ -12,7 +12,7 @@ use Rattle.chassis.specs.Channels.{chan-count}
 use Rattle.chassis.specs.Tables.{table-passes}
 use Rattle.queue.specs.declared.Channel.{Channel}
 use Rattle.queue.specs.Entries.{is-zero-entry}
-use Rattle.queue.specs.Packing.{live}
+use Rattle.queue.specs.Packing.{live, channel-places}
 use Rattle.network.specs.declared.State.{State}
 use Rattle.network.specs.Nets.{Net}
 use Rattle.network.specs.Soundness.{within-limits, fit}
@@ -24,7 +24,7 @@ counting T begins = record { table = T; chans = []; begins = begins }
 -- channel n
 unfoldable pub sound-channel : Table → List ℕ → ℕ → Channel → Bool
 sound-channel T begins n c =
-    leb (c .count) 24
+    leb (c .count) channel-places
     && within-limits T (live c)
     && all (fit (counting T begins) (chan n)) (live c)
     && all is-zero-entry (drop (c .count) (c .entries))

@@ -13,7 +13,7 @@ use Rattle.queue.specs.declared.Found.the-variants as found
 use Rattle.queue.specs.declared.Change.{Change}
 use Rattle.queue.specs.declared.Change.the-variants.{Nothing, Add, TakeOut, TakeMatching, Mark}
 use Rattle.queue.specs.Entries.{C, is-named, matches, marked, zero-entry}
-use Rattle.queue.specs.Packing.{live}
+use Rattle.queue.specs.Packing.{live, channel-places}
 
 -- the first place from i on whose entry passes
 unfoldable pub place-from : ℕ → (Entry → Bool) → List Entry → Found
@@ -28,9 +28,9 @@ place-of k t c = place-from 0 (is-named k t) (live c)
 unfoldable pub place-of-matching : ℕ → Entry → Channel → Found
 place-of-matching k r c = place-from 0 (matches k r) (live c)
 
--- behind all others; a channel with 24 entries stays as it is
+-- behind all others; a channel that has no place left stays as it is
 unfoldable pub added-to : Channel → Entry → Channel
-added-to c x = cond (ltb (c .count) 24) (record { entries = set (c .entries) (c .count) x; count = c .count + 1 }) c
+added-to c x = cond (ltb (c .count) channel-places) (record { entries = set (c .entries) (c .count) x; count = c .count + 1 }) c
 
 -- the entry at place i leaves, those behind it move up, and the last place is zero
 unfoldable pub removed-at : Channel → ℕ → Channel

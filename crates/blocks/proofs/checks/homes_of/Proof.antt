@@ -11,15 +11,16 @@ use Rattle.blocks.proofs.Bytes.{homes-turn}
 use Rattle.base.proofs.Writing.{filled, filled-on}
 use Rattle.base.proofs.Loops.{slice-over}
 use borrow.Author.Needs.{needs}
+use Rattle.chassis.specs.Capacities.{most-agents}
 use Rattle.blocks.proofs.checks.homes_of.Statement.{statement}
 use Rattle.blocks.proofs.checks.homes_of.Tie as tie
 
 abbrev Inv-loop : tie.InvT-loop
 Inv-loop b homes₀ i₀ homes i =
-    (i ≤ 32) × (length homes ≡ 32) × (take i homes ++ map bus (slice (48 + i) 80 b) ≡ map bus (slice 48 80 b))
+    (i ≤ most-agents) × (length homes ≡ most-agents) × (take i homes ++ map bus (slice (48 + i) 80 b) ≡ map bus (slice 48 80 b))
 
 abbrev μ-loop : tie.MeasureT-loop
-μ-loop b homes₀ i₀ homes i = 32 - i
+μ-loop b homes₀ i₀ homes i = most-agents - i
 
 loop-holds : tie.Need-loop-holds Inv-loop μ-loop
 loop-holds c = search needs

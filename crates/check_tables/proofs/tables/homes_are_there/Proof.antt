@@ -10,6 +10,7 @@ use Rattle.base.specs.Lists.{all}
 use Rattle.base.proofs.Cases.{cases}
 use Rattle.base.proofs.Walks.{owned}
 use Rattle.base.proofs.Loops.{Left, all-left, stops, goes-on, ends}
+use Rattle.chassis.specs.Capacities.{most-agents}
 use Rattle.chassis.specs.Numbers.{bus}
 use Rattle.chassis.specs.Channels.{has-bus}
 use Rattle.chassis.specs.Tables.{homes-of}
@@ -29,7 +30,7 @@ cast-n c = search needs
 loop-holds : tie.Need-loop-holds Inv-loop μ-loop
 loop-holds c =
     let t = c .args .t1 in
-    let long : length (t .homes) ≡ 32 = search owned in
+    let long : length (t .homes) ≡ most-agents = search owned in
     all-left (has-bus t) (t .homes) (t .agents) 0 (omega (arith, counts t (c .pre)))
 
 element-copy-out-has-bus : tie.Need-element-copy-out-has-bus Inv-loop μ-loop

@@ -8,22 +8,23 @@ use Rattle.base.specs.Lists.{all}
 use Rattle.base.proofs.Cases.{cases}
 use Rattle.base.proofs.Walks.{owned}
 use Rattle.base.proofs.Loops.{Left, all-left-over, stops, goes-on, ends}
+use Rattle.chassis.specs.Capacities.{most-agents}
 use Rattle.chassis.specs.Numbers.{bus}
 use Rattle.chassis.specs.Tables.{is-zero-bus}
 use Rattle.check_tables.proofs.tables.unused_homes_are_zero.Statement.{statement}
 use Rattle.check_tables.proofs.tables.unused_homes_are_zero.Tie as tie
 
 abbrev Inv-loop : tie.InvT-loop
-Inv-loop t i₀ i = Left false (λ _. is-zero-bus) (t .homes) 32 i (all is-zero-bus (drop (t .agents) (t .homes)))
+Inv-loop t i₀ i = Left false (λ _. is-zero-bus) (t .homes) most-agents i (all is-zero-bus (drop (t .agents) (t .homes)))
 
 abbrev μ-loop : tie.MeasureT-loop
-μ-loop t i₀ i = 32 - i
+μ-loop t i₀ i = most-agents - i
 
 cast-i : tie.Need-cast-i Inv-loop μ-loop
 cast-i c = search needs
 
 loop-holds : tie.Need-loop-holds Inv-loop μ-loop
-loop-holds c = all-left-over (c .args .t1 .homes) 32 (c .args .t1 .agents) (search owned) is-zero-bus
+loop-holds c = all-left-over (c .args .t1 .homes) most-agents (c .args .t1 .agents) (search owned) is-zero-bus
 
 element-copy-out-is-zero-bus : tie.Need-element-copy-out-is-zero-bus Inv-loop μ-loop
 element-copy-out-is-zero-bus c = search needs

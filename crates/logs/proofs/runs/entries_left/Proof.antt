@@ -9,14 +9,16 @@ use native.Mathlib.Omega.{arith}
 use lib.ListN.{length, drop}
 use Prim.Native.Nat.{_≤_, _+_, _-_, _*_}
 use borrow.Author.Needs.{needs}
+use Rattle.chassis.specs.Capacities.{most-channels}
+use Rattle.queue.specs.Packing.{channel-places}
 use Rattle.logs.proofs.runs.entries_left.Statement.{statement}
 use Rattle.logs.proofs.runs.entries_left.Tie as tie
 
 abbrev Inv-loop : tie.InvT-loop
-Inv-loop s sum₀ i₀ sum i = (i ≤ 62) × (sum ≤ 24 * i) × (sum + entries-left (drop i (s .channels)) ≡ entries-left (s .channels))
+Inv-loop s sum₀ i₀ sum i = (i ≤ most-channels) × (sum ≤ channel-places * i) × (sum + entries-left (drop i (s .channels)) ≡ entries-left (s .channels))
 
 abbrev μ-loop : tie.MeasureT-loop
-μ-loop s sum₀ i₀ sum i = 62 - i
+μ-loop s sum₀ i₀ sum i = most-channels - i
 
 loop-holds : tie.Need-loop-holds Inv-loop μ-loop
 loop-holds c = (omega arith, omega arith, omega arith)
@@ -44,7 +46,7 @@ loop-again c =
     let l = c .before .before .before .loop in
     let s = c .before .before .before .before .args .t1 in
     let f = sound-opened s (c .before .before .before .before .pre) .fitting (l .i) in
-    let n : length (s .channels) ≡ 62 = search owned in
+    let n : length (s .channels) ≡ most-channels = search owned in
     let t = c .before .before .loop-test in
     let e = left-turn (s .channels) (l .i) (omega arith) in
     (omega arith, omega arith, omega arith)
@@ -53,7 +55,7 @@ returns : tie.Need-returns Inv-loop μ-loop
 returns c =
     let l = c .before .loop in
     let s = c .before .before .args .t1 in
-    let n : length (s .channels) ≡ 62 = search owned in
+    let n : length (s .channels) ≡ most-channels = search owned in
     let t = c .loop-test in
     let e = none-left (s .channels) (l .i) (omega arith) in
     omega arith

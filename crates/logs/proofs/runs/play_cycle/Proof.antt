@@ -13,14 +13,15 @@ use Rattle.blocks.proofs.Accepted.{length-record-bytes}
 use Rattle.lines.proofs.Texts.{written-on, written-length}
 use Rattle.logs.proofs.Ticking.{tick-fits, same-state, refused-texts, accepted-texts}
 use borrow.Author.Needs.{needs}
+use Rattle.chassis.specs.Capacities.{most-records}
 use Rattle.logs.proofs.runs.play_cycle.Statement.{statement}
 use Rattle.logs.proofs.runs.play_cycle.Tie as tie
 
 right : (c : tie.Start) → Right (c .args .s)
 right c = record { shaped = of-type (c .args .s) _ (c .good .0); is-sound = c .pre .0 }
 
-zeros : (j : ℕ) → getD {A = ℕ} (replicate 63 0) j 0 ≡ 0
-zeros j = replicate-at 63 j 0
+zeros : (j : ℕ) → getD {A = ℕ} (replicate most-records 0) j 0 ≡ 0
+zeros j = replicate-at most-records j 0
 
 shared-slice-read-n : tie.Need-shared-slice-read-n
 shared-slice-read-n c = search needs

@@ -12,11 +12,12 @@ use mathlib.Core.List.{List, append-nil}
 use mathlib.Core.Path.{_≡_, refl, sym, _∙_}
 use lib.ListN.{length}
 use borrow.Author.Needs.{needs}
+use Rattle.chassis.specs.Capacities.{most-records}
 use Rattle.logs.proofs.runs.run_block.Statement.{statement}
 use Rattle.logs.proofs.runs.run_block.Tie as tie
 
 -- an accepted block is whole, and its records are few
-fits : (place : ℕ) (b : List ℕ) (a : BlockAnswer) → Accepted a → block-answer place b ≡ a → (length b ≡ 512) × (record-count b ≤ 63)
+fits : (place : ℕ) (b : List ℕ) (a : BlockAnswer) → Accepted a → block-answer place b ≡ a → (length b ≡ 512) × (record-count b ≤ most-records)
 fits place b a h e = let k = accepted-block place b a h e .0 in (accepted-length place b k, accepted-count place b k)
 
 block-answer-requires : tie.Need-block-answer-requires

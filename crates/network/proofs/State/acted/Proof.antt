@@ -8,6 +8,7 @@ use lib.ListN.{length}
 use native.Mathlib.Omega.{arith}
 use Rattle.network.specs.code.Acts.{acted-on}
 use borrow.Author.Needs.{needs}
+use Rattle.chassis.specs.Capacities.{most-channels}
 use Rattle.network.proofs.State.acted.Statement.{statement}
 use Rattle.network.proofs.State.acted.Tie as tie
 
@@ -18,7 +19,7 @@ returns : tie.Need-returns
 unfolding acted-on
 returns c =
     let a = c .before .before .before .args in
-    let l : length (a .t1 .channels) ≡ 62 = search owned in
+    let l : length (a .t1 .channels) ≡ most-channels = search owned in
     acted-beyond (a .t1) (a .a) (omega arith)
 
 mul-c : tie.Need-mul-c

@@ -8,6 +8,7 @@ use lib.ListN.{length}
 use native.Mathlib.Omega.{arith}
 use Rattle.network.specs.code.Acts.{counted}
 use borrow.Author.Needs.{needs}
+use Rattle.chassis.specs.Capacities.{most-agents}
 use Rattle.network.proofs.State.counted.Statement.{statement}
 use Rattle.network.proofs.State.counted.Tie as tie
 
@@ -18,7 +19,7 @@ returns : tie.Need-returns
 unfolding counted
 returns c =
     let a = c .before .before .args in
-    let l : length (a .t1 .begins) ≡ 32 = search owned in
+    let l : length (a .t1 .begins) ≡ most-agents = search owned in
     counted-beyond (a .t1) (a .m) (a .n) (omega arith)
 
 mul-self : tie.Need-mul-self

@@ -6,18 +6,19 @@ use borrow.Author.Needs.{needs}
 use Rattle.base.specs.Lists.{all-from}
 use Rattle.base.proofs.Loops.{Left, cells-left, stops, goes-on, ends}
 use Rattle.base.proofs.Cases.{cases}
+use Rattle.chassis.specs.Capacities.{most-agents}
 use Rattle.network.specs.code.Testing.{sound-count}
 use Rattle.network.proofs.soundness.are_sound_counts.Statement.{statement}
 use Rattle.network.proofs.soundness.are_sound_counts.Tie as tie
 
 abbrev Inv-loop : tie.InvT-loop
-Inv-loop t begins a₀ a = Left false (sound-count t) begins 32 a (all-from 0 (sound-count t) begins)
+Inv-loop t begins a₀ a = Left false (sound-count t) begins most-agents a (all-from 0 (sound-count t) begins)
 
 abbrev μ-loop : tie.MeasureT-loop
-μ-loop t begins a₀ a = 32 - a
+μ-loop t begins a₀ a = most-agents - a
 
 loop-holds : tie.Need-loop-holds Inv-loop μ-loop
-loop-holds c = cells-left (c .args .t2) 32 0 (search needs) (sound-count (c .args .t))
+loop-holds c = cells-left (c .args .t2) most-agents 0 (search needs) (sound-count (c .args .t))
 
 cast-i : tie.Need-cast-i Inv-loop μ-loop
 cast-i c = search needs

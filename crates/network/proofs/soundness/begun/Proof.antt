@@ -4,6 +4,7 @@ use mathlib.Core.Path.{_≡_, sym}
 use native.Mathlib.Omega.{arith}
 use borrow.Author.Needs.{needs}
 use lib.ListN.{length, List·getD-eq-default}
+use Rattle.chassis.specs.Capacities.{most-agents}
 use Rattle.network.proofs.soundness.begun.Statement.{statement}
 use Rattle.network.proofs.soundness.begun.Tie as tie
 
@@ -13,7 +14,7 @@ cast-i c = search needs
 returns : tie.Need-returns
 returns c =
     let a = c .before .before .args in
-    let l : length (a .t1) ≡ 32 = search needs in
+    let l : length (a .t1) ≡ most-agents = search needs in
     sym (List·getD-eq-default (a .t1) 0 {n = a .a .0} (omega arith))
 
 mul-result : tie.Need-mul-result

@@ -11,7 +11,7 @@ use Rattle.base.proofs.Walks.{owned}
 use Rattle.base.proofs.Loops.{Left, all-left, stops, goes-on, ends}
 use Rattle.base.proofs.Cases.{cases}
 use Rattle.queue.specs.Entries.{zero-entry}
-use Rattle.queue.specs.Packing.{live}
+use Rattle.queue.specs.Packing.{live, channel-places}
 use Rattle.network.specs.Soundness.{fit}
 use Rattle.network.specs.code.Testing.{counting}
 use Rattle.network.proofs.soundness.entries_fit.Statement.{statement}
@@ -26,7 +26,7 @@ abbrev μ-loop : tie.MeasureT-loop
 loop-holds : tie.Need-loop-holds Inv-loop μ-loop
 loop-holds c =
     let a = c .args in
-    let long : length (a .t5 .entries) ≡ 24 = search owned in
+    let long : length (a .t5 .entries) ≡ channel-places = search owned in
     all-left (fit (counting (a .t) (a .begins)) (a .n)) (a .t5 .entries) (a .t5 .count) 0 (omega arith)
 
 mul-x : tie.Need-mul-x Inv-loop μ-loop

@@ -10,6 +10,7 @@ use Rattle.base.proofs.Cases.{by-call-not, by-call-so}
 use Rattle.base.proofs.Walks.{owned}
 use Rattle.base.proofs.Loops.{Left, cells-left, stops, goes-on, ends}
 use Rattle.chassis.specs.Tables.{table-passes}
+use Rattle.chassis.specs.Capacities.{most-channels}
 use Rattle.find_routes.proofs.Places.{in-range}
 use Rattle.check_tables.proofs.Asking.{answered-passes, answered-refused}
 use Rattle.network.specs.Shapes.{no-channel}
@@ -20,10 +21,10 @@ use Rattle.network.proofs.soundness.is_sound.Tie as tie
 
 abbrev Inv-loop : tie.InvT-loop
 Inv-loop s t ways begins n₀ n =
-    Left false (sound-channel (s .table) (s .begins)) (s .channels) 62 n (all-from 0 (sound-channel (s .table) (s .begins)) (s .channels))
+    Left false (sound-channel (s .table) (s .begins)) (s .channels) most-channels n (all-from 0 (sound-channel (s .table) (s .begins)) (s .channels))
 
 abbrev μ-loop : tie.MeasureT-loop
-μ-loop s t ways begins n₀ n = 62 - n
+μ-loop s t ways begins n₀ n = most-channels - n
 
 table-answer-requires : tie.Need-table-answer-requires Inv-loop μ-loop
 table-answer-requires c κs = search needs
@@ -47,7 +48,7 @@ ladder-requires c κs = in-range _ (passes c)
 loop-holds : tie.Need-loop-holds Inv-loop μ-loop
 loop-holds c =
     let s = c .before .before .before .before .before .before .args .t1 in
-    cells-left (s .channels) 62 0 (search owned) (sound-channel (s .table) (s .begins))
+    cells-left (s .channels) most-channels 0 (search owned) (sound-channel (s .table) (s .begins))
 
 cast-i : tie.Need-cast-i Inv-loop μ-loop
 cast-i c = search needs

@@ -4,7 +4,7 @@ use mathlib.Core.Path.{_≡_, ap, sym, subst, _∙_}
 use native.Mathlib.Omega.{arith}
 use Rattle.queue.specs.Packing.{live}
 use Rattle.play_events.specs.Notices.{look-told, Aimed, notice}
-use Rattle.read_events.proofs.Onward.{one-of-62, Onward, told-onward, onward-small}
+use Rattle.read_events.proofs.Onward.{chan-low, Onward, told-onward, onward-small}
 use borrow.Author.Needs.{needs}
 use Rattle.play_events.proofs.notices.noticed.Statement.{statement}
 use Rattle.play_events.proofs.notices.noticed.Tie as tie
@@ -37,7 +37,7 @@ answer-or-requires c κs =
 back-or-requires : tie.Need-back-or-requires
 back-or-requires c κs =
     let s = c .before .before .before .before .before .before in
-    let h = one-of-62 (s .args .t) (s .pre .0) (s .args .f .at) (s .pre .1) in
+    let h = chan-low (s .args .t) (s .pre .0) (s .args .f .at) (s .pre .1) in
     omega arith
 
 returns : tie.Need-returns

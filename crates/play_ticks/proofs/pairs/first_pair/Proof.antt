@@ -5,18 +5,19 @@ use lib.ListN.{length}
 use native.Mathlib.Omega.{arith}
 use Prim.Native.Nat.{_≤_, _-_}
 use Rattle.base.proofs.Walks.{owned}
+use Rattle.chassis.specs.Capacities.{most-records}
 use Rattle.play_ticks.proofs.Pairing.{Seeking, Comparing, seek-first, compare-first, compare-on, pair-found, seek-on, seek-done}
 use Rattle.play_ticks.proofs.pairs.first_pair.Statement.{statement}
 use Rattle.play_ticks.proofs.pairs.first_pair.Tie as tie
 
 abbrev Inv-loop2 : tie.InvT-loop2
-Inv-loop2 n turns i e j₀ j = Comparing (turns .all) n i e j × (n ≤ 63)
+Inv-loop2 n turns i e j₀ j = Comparing (turns .all) n i e j × (n ≤ most-records)
 
 abbrev μ-loop2 : tie.MeasureT-loop2
 μ-loop2 n turns i e j₀ j = n - j
 
 abbrev Inv-loop : tie.InvT-loop
-Inv-loop n turns i₀ i = Seeking (turns .all) n i × (n ≤ 63)
+Inv-loop n turns i₀ i = Seeking (turns .all) n i × (n ≤ most-records)
 
 abbrev μ-loop : tie.MeasureT-loop
 μ-loop n turns i₀ i = n - i

@@ -5,6 +5,7 @@ use lib.ListN.{length, getD}
 use native.Mathlib.Omega.{arith}
 use Prim.Native.Nat.{ℕ, _≤_, _<_, _-_, _+_}
 use Rattle.base.proofs.Walks.{owned}
+use Rattle.chassis.specs.Capacities.{most-records}
 use Rattle.play_events.proofs.Carried.{stores}
 use Rattle.play_ticks.specs.Turns.{no-turn, Placed, turned}
 use Rattle.play_ticks.proofs.Carrying.{Carrying, carry-first, carry-on, carry-done}
@@ -13,7 +14,7 @@ use Rattle.play_ticks.proofs.turning.carry.Tie as tie
 
 abbrev Inv-loop : tie.InvT-loop
 Inv-loop n answers₀ turns state₀ i₀ answers state i =
-    Carrying (turns .all) n state₀ answers₀ state answers i × (n ≤ 63) × ((j : ℕ) → j < n → Placed (getD (turns .all) j no-turn))
+    Carrying (turns .all) n state₀ answers₀ state answers i × (n ≤ most-records) × ((j : ℕ) → j < n → Placed (getD (turns .all) j no-turn))
 
 abbrev μ-loop : tie.MeasureT-loop
 μ-loop n answers₀ turns state₀ i₀ answers state i = n - i

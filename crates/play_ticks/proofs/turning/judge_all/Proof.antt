@@ -5,6 +5,7 @@ use native.Mathlib.Omega.{arith}
 use Prim.Native.Nat.{ℕ, _≤_, _+_, _-_, _*_, _/_}
 use lib.ListN.{length, replicate}
 use Rattle.base.proofs.Walks.{owned}
+use Rattle.chassis.specs.Capacities.{most-records}
 use Rattle.find_routes.proofs.Places.{in-range}
 use Rattle.network.specs.Nets.{view}
 use Rattle.network.proofs.OfType.{of-type}
@@ -57,7 +58,7 @@ loop-holds : tie.Need-loop-holds Inv-loop μ-loop
 loop-holds c =
     let s = c .before .before .before .before in
     let f = s .pre .1 in
-    judge-first (view (s .args .t1)) (s .args .r .now) _ _ refl (omega arith) (ap (replicate 63) (c .before .before .no-turn .ensures))
+    judge-first (view (s .args .t1)) (s .args .r .now) _ _ refl (omega arith) (ap (replicate most-records) (c .before .before .no-turn .ensures))
 
 decode-at-requires : tie.Need-decode-at-requires Inv-loop μ-loop
 decode-at-requires c κs = let k = c .before .loop .inv .count in let t = c .loop-test in omega arith

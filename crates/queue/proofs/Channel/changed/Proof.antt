@@ -1,5 +1,5 @@
 -- `Channel::changed` is changed-to.
--- Each arm is one clause of the definition; a place that was found is below 24, since only as many entries are walked through.
+-- Each arm is one clause of the definition; a place that was found is there, since only as many entries are walked through.
 use borrow.Author.Needs.{needs}
 use mathlib.Core.Path.{sym, _∙_}
 use Rattle.base.proofs.Walks.{owned}

@@ -1,5 +1,5 @@
 -- `Channel::empty` is zero-channel.
--- 24 times what `Entry::none` gives.
+-- In each place what `Entry::none` gives.
 use borrow.Author.Needs.{needs}
 use Rattle.queue.proofs.Channel.empty.Statement.{statement}
 use Rattle.queue.proofs.Channel.empty.Tie as tie

@@ -1,7 +1,7 @@
 -- `Channel::removed` is removed-at.
 -- Invariant: closing the gap where it stands now gives the same list as closing it where it began.
 use borrow.Author.Needs.{needs}
-use Prim.Native.Nat.{_-_, _≤_}
+use Prim.Native.Nat.{ℕ, _-_, _≤_}
 use native.Mathlib.Omega.{arith}
 use mathlib.Core.Path.{_≡_, refl, sym, _∙_}
 use lib.ListN.{length, length-set}
@@ -9,20 +9,25 @@ use Rattle.base.proofs.Walks.{owned}
 use Rattle.base.proofs.Padded.{close-gap, gap-on, gap-end}
 use Rattle.queue.specs.Entries.{zero-entry}
 use Rattle.queue.specs.code.Methods.{removed-at}
+use Rattle.queue.specs.Packing.{channel-places}
 use Rattle.queue.proofs.Channel.removed.Statement.{statement}
 use Rattle.queue.proofs.Channel.removed.Tie as tie
 
+-- where the gap ends
+abbrev last : ℕ
+last = channel-places - 1
+
 abbrev Inv-loop : tie.InvT-loop
 Inv-loop i self₀ n gap₀ self gap =
-    (gap ≤ 23) × (self .count ≡ self₀ .count) × (length (self .entries) ≡ 24)
+    (gap ≤ last) × (self .count ≡ self₀ .count) × (length (self .entries) ≡ channel-places)
     × (close-gap zero-entry gap (self .entries) ≡ close-gap zero-entry i (self₀ .entries))
 
 abbrev μ-loop : tie.MeasureT-loop
-μ-loop i self₀ n gap₀ self gap = 23 - gap
+μ-loop i self₀ n gap₀ self gap = last - gap
 
 loop-holds : tie.Need-loop-holds Inv-loop μ-loop
 loop-holds c =
-    let long : length (c .args .t1 .entries) ≡ 24 = search owned in
+    let long : length (c .args .t1 .entries) ≡ channel-places = search owned in
     (omega arith, refl, long, refl)
 
 add-x : tie.Need-add-x Inv-loop μ-loop
@@ -64,8 +69,8 @@ returns : tie.Need-returns Inv-loop μ-loop
 unfolding removed-at
 returns c =
     let l = c .before .before .before .loop in
-    let e : l .gap ≡ 23 = omega arith in
-    let g = gap-end zero-entry (l .self .entries) 23 (sym (l .inv .2)) in
+    let e : l .gap ≡ last = omega arith in
+    let g = gap-end zero-entry (l .self .entries) last (sym (l .inv .2)) in
     rw (c .before .none .ensures, c .one-less .ensures, g, ← rw e at (l .inv .3))
 
 pub removed-spec : {M : Type 1} → statement M

@@ -9,17 +9,18 @@ use Rattle.base.proofs.Cases.{cases}
 use Rattle.base.proofs.Walks.{owned}
 use Rattle.base.proofs.Loops.{Left, all-left-over, stops, goes-on, ends}
 use Rattle.queue.specs.Entries.{zero-entry, is-zero-entry}
+use Rattle.queue.specs.Packing.{channel-places}
 use Rattle.queue.proofs.Channel.unused_are_zero.Statement.{statement}
 use Rattle.queue.proofs.Channel.unused_are_zero.Tie as tie
 
 abbrev Inv-loop : tie.InvT-loop
-Inv-loop self i₀ i = Left false (λ _. is-zero-entry) (self .entries) 24 i (all is-zero-entry (drop (self .count) (self .entries)))
+Inv-loop self i₀ i = Left false (λ _. is-zero-entry) (self .entries) channel-places i (all is-zero-entry (drop (self .count) (self .entries)))
 
 abbrev μ-loop : tie.MeasureT-loop
-μ-loop self i₀ i = 24 - i
+μ-loop self i₀ i = channel-places - i
 
 loop-holds : tie.Need-loop-holds Inv-loop μ-loop
-loop-holds c = all-left-over (c .args .t1 .entries) 24 (c .args .t1 .count) (search owned) is-zero-entry
+loop-holds c = all-left-over (c .args .t1 .entries) channel-places (c .args .t1 .count) (search owned) is-zero-entry
 
 mul-x : tie.Need-mul-x Inv-loop μ-loop
 mul-x c = search needs
