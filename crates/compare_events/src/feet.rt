@@ -8,6 +8,8 @@ use chassis::Table;
 use chassis::channels::opposite;
 use chassis::channels::out_bus;
 use events::Event;
+use queue::C;
+use queue::R;
 use queue::Transaction;
 ghost use mathlib.Core.Path.{_≡_};
 ghost use mathlib.Core.Bool.{true, false};
@@ -59,7 +61,7 @@ fn bus_foot(t: Table, n: Chan, x: Transaction, tries: bool) -> Foot
     f.occurs = true;
     f.bus = out_bus(t, n);
     f.tries = tries;
-    f.kind = 2;
+    f.kind = R;
     f.channel = n;
     f.transaction = x;
     f
@@ -120,11 +122,11 @@ pub fn foot_of(t: Table, e: Event, next: NextPlace) -> Foot
         Event::DropRequest {
             channel,
             transaction,
-        } => drop_foot(2, channel, transaction),
+        } => drop_foot(R, channel, transaction),
         Event::DropCompletion {
             channel,
             transaction,
-        } => drop_foot(3, channel, transaction),
+        } => drop_foot(C, channel, transaction),
     }
 }
 

@@ -26,7 +26,8 @@ use Rattle.events.specs.declared.Decoded.the-variants.{Known, Unfit}
 use Rattle.judge_events.specs.declared.Plan.{Plan}
 use Rattle.events.specs.Tests.{ahead, entry-at}
 use Rattle.events.specs.Grounds.{grounds}
-use Rattle.events.specs.Effects.{new-entry, next-number}
+use Rattle.events.specs.Accounts.{account}
+use Rattle.events.specs.Effects.{new-entry, next-number, value}
 
 abbrev pub at-channel : Chan → Change → Act
 at-channel N ch = record { at = N; change = ch }
@@ -36,6 +37,18 @@ no-act = at-channel (chan 0) Nothing
 
 abbrev pub refused-plan : ℕ → Plan
 refused-plan n = record { refusal = n; value = 0; raises = false; first = no-act; second = no-act; third = no-act }
+
+-- the changes of an event, in their order
+pub record Acts : Type 0 where
+  pub first : Act
+  pub second : Act
+  pub third : Act
+
+abbrev pub three : Act → Act → Act → Acts
+three a b c = record { first = a; second = b; third = c }
+
+abbrev pub begin-acts : Net → ℕ → Bool → Agent → Agent → Acts
+begin-acts s k write m a = three (at-channel (master-channel m) (Add (new-entry s k write m a))) no-act no-act
 
 abbrev pub does : Act → Act → Act → Plan
 does a b c = record { refusal = 0; value = 0; raises = false; first = a; second = b; third = c }
@@ -64,22 +77,34 @@ answer-leaving T (Through X) r = at-channel (opposite T X) (TakeMatching r)
 abbrev pub answer-entering : Table → Chan → Entry → Act
 answer-entering T N x = cond (is-master T N) no-act (at-channel (opposite T N) (Add (as-kind C x)))
 
-unfoldable pub accepted-plan : Net → Event → Plan
-accepted-plan s (BeginPosted m a) = begin-plan s P true m a
-accepted-plan s (BeginRead m a) = begin-plan s R false m a
-accepted-plan s (BeginWrite m a) = begin-plan s R true m a
-accepted-plan s (Commit N t) = does (at-channel N (Mark (entry-at s R N t))) no-act no-act
-accepted-plan s (Post N t) =
-    does (at-channel N (TakeOut (entry-at s P N t))) (entering (ahead s P N t) (entry-at s P N t)) no-act
-accepted-plan s (Latch N t) =
-    does (at-channel N (Mark (entry-at s R N t))) (entering (ahead s R N t) (as-kind R (entry-at s R N t))) no-act
-accepted-plan s (Complete N t) =
-    does
+-- the changes of channels that an event makes
+unfoldable pub acts-of : Net → Event → Acts
+acts-of s (BeginPosted m a) = begin-acts s P true m a
+acts-of s (BeginRead m a) = begin-acts s R false m a
+acts-of s (BeginWrite m a) = begin-acts s R true m a
+acts-of s (Commit N t) = three (at-channel N (Mark (entry-at s R N t))) no-act no-act
+acts-of s (Post N t) =
+    three (at-channel N (TakeOut (entry-at s P N t))) (entering (ahead s P N t) (entry-at s P N t)) no-act
+acts-of s (Latch N t) =
+    three (at-channel N (Mark (entry-at s R N t))) (entering (ahead s R N t) (as-kind R (entry-at s R N t))) no-act
+acts-of s (Complete N t) =
+    three
     (at-channel N (TakeOut (entry-at s R N t)))
     (answer-leaving (s .table) (ahead s R N t) (entry-at s R N t))
     (answer-entering (s .table) N (entry-at s R N t))
-accepted-plan s (DropRequest N t) = does (at-channel N (TakeOut (entry-at s R N t))) no-act no-act
-accepted-plan s (DropCompletion N t) = does (at-channel N (TakeOut (entry-at s C N t))) no-act no-act
+acts-of s (DropRequest N t) = three (at-channel N (TakeOut (entry-at s R N t))) no-act no-act
+acts-of s (DropCompletion N t) = three (at-channel N (TakeOut (entry-at s C N t))) no-act no-act
+
+-- these, with the event's value; a begin raises its master's count
+unfoldable pub accepted-plan : Net → Event → Plan
+accepted-plan s e = record {
+  refusal = 0;
+  value = value s e;
+  raises = account e .begins;
+  first = acts-of s e .first;
+  second = acts-of s e .second;
+  third = acts-of s e .third;
+}
 
 abbrev pub plan-by : Option ℕ → Plan → Plan
 plan-by none p = p

@@ -8,9 +8,12 @@ use chassis::channels::is_master;
 use chassis::channels::opposite;
 use events::Event;
 use network::Act;
+use queue::C;
 use queue::Change;
 use queue::Entry;
 use queue::Look;
+use queue::P;
+use queue::R;
 use queue::Transaction;
 use read_events::Frame;
 use read_events::Sight;
@@ -187,7 +190,7 @@ fn judge_latch_on(n: Chan, l: Look, ahead: Chan, g: Sight) -> Plan
     if g.full {
         return refused_plan(5);
     }
-    done(marks(n, x), adds(ahead, x.as_kind(2)), no_act())
+    done(marks(n, x), adds(ahead, x.as_kind(R)), no_act())
 }
 
 // Latch: 6, 11.
@@ -211,7 +214,7 @@ fn gives_answer(t: Table, n: Chan, x: Entry) -> Act
     if is_master(t, n) {
         return no_act();
     }
-    adds(opposite(t, n), x.as_kind(3))
+    adds(opposite(t, n), x.as_kind(C))
 }
 
 // Complete, where nothing is left but room for the new C: 5.
@@ -308,13 +311,13 @@ fn judge_event(t: Table, e: Event, count: u16, l: Look, next: NextPlace, g: Sigh
         Event::BeginPosted { master, target } => judge_begin(
             count,
             g.full,
-            1,
+            P,
             true,
             master,
             target,
         ),
-        Event::BeginRead { master, target } => judge_begin(count, g.full, 2, false, master, target),
-        Event::BeginWrite { master, target } => judge_begin(count, g.full, 2, true, master, target),
+        Event::BeginRead { master, target } => judge_begin(count, g.full, R, false, master, target),
+        Event::BeginWrite { master, target } => judge_begin(count, g.full, R, true, master, target),
         Event::Commit {
             channel,
             transaction: _,

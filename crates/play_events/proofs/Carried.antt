@@ -34,7 +34,7 @@ use Rattle.judge_events.specs.declared.Plan.{Plan}
 use Rattle.events.specs.Grounds.{grounds, Accepted}
 use Rattle.events.specs.Effects.{after, value}
 use Rattle.read_events.specs.Frames.{frame}
-use Rattle.judge_events.specs.Plans.{refused-plan, begin-plan, accepted-plan, plan, record-plan, carried-out}
+use Rattle.judge_events.specs.Plans.{refused-plan, begin-plan, accepted-plan, plan, record-plan, carried-out, acts-of}
 use Rattle.events.specs.Steps.{inner-step, record-step, refusal-number, answer-value}
 use Rattle.events.specs.declared.Event.the-variants.{BeginPosted, BeginRead, BeginWrite, Commit, Post, Latch, Complete, DropRequest, DropCompletion}
 use Rattle.events.specs.Accounts.{account}
@@ -64,30 +64,19 @@ module _ (s : State) (r : Right s) where
       (λ h. rw h (subst (λ (x : State). carried-out x ((frame (s .table) (Known e)) .master) (accepted-plan (view s) e) ≡ pack (after (view s) e)) (sym packs) (accepted-done (view s) good e h)))
       (λ k h. rw h (idle k ((frame (s .table) (Known e)) .master)))
 
--- an accepted plan has the event's value
-pub accepted-number : (n : Net) (e : Event) → accepted-plan n e .refusal ≡ 0
-unfolding accepted-plan
-accepted-number n (BeginPosted m a) = refl
-accepted-number n (BeginRead m a) = refl
-accepted-number n (BeginWrite m a) = refl
-accepted-number n (Commit N t) = refl
-accepted-number n (Post N t) = refl
-accepted-number n (Latch N t) = refl
-accepted-number n (Complete N t) = refl
-accepted-number n (DropRequest N t) = refl
-accepted-number n (DropCompletion N t) = refl
+-- an accepted plan has the event's value, and only a begin's raises
+module _ (n : Net) (e : Event) where
+  pub accepted-number : accepted-plan n e .refusal ≡ 0
+  unfolding accepted-plan
+  accepted-number = refl
 
-pub accepted-value : (n : Net) (e : Event) → accepted-plan n e .value ≡ value n e
-unfolding accepted-plan value
-accepted-value n (BeginPosted m a) = refl
-accepted-value n (BeginRead m a) = refl
-accepted-value n (BeginWrite m a) = refl
-accepted-value n (Commit N t) = refl
-accepted-value n (Post N t) = refl
-accepted-value n (Latch N t) = refl
-accepted-value n (Complete N t) = refl
-accepted-value n (DropRequest N t) = refl
-accepted-value n (DropCompletion N t) = refl
+  pub accepted-value : accepted-plan n e .value ≡ value n e
+  unfolding accepted-plan
+  accepted-value = refl
+
+  pub accepted-raises : accepted-plan n e .raises ≡ account e .begins
+  unfolding accepted-plan
+  accepted-raises = refl
 
 pub plan-number : (s : State) (d : Decoded) → (record-plan (view s) d) .refusal ≡ refusal-number ((record-step s d) .answer)
 unfolding record-plan plan inner-step
@@ -99,36 +88,11 @@ unfolding record-plan plan inner-step
 plan-value s Unfit = refl
 plan-value s (Known e) = there (refusal (grounds (view s) e)) (λ h. rw h (accepted-value (view s) e)) (λ k h. rw h)
 
--- only a begin raises
-pub accepted-raises : (n : Net) (e : Event) → accepted-plan n e .raises ≡ account e .begins
-unfolding accepted-plan
-accepted-raises n (BeginPosted m a) = refl
-accepted-raises n (BeginRead m a) = refl
-accepted-raises n (BeginWrite m a) = refl
-accepted-raises n (Commit N t) = refl
-accepted-raises n (Post N t) = refl
-accepted-raises n (Latch N t) = refl
-accepted-raises n (Complete N t) = refl
-accepted-raises n (DropRequest N t) = refl
-accepted-raises n (DropCompletion N t) = refl
-
 -- a begin's value is the count that its master then has
 module _ (n : Net) (g : Good n) where
-  raised-begin : (e : Event) (k : ℕ) (write : Bool) (m a : Agent) → Accepted n e → accepted-plan n e ≡ begin-plan n k write m a → account e .name .master ≡ m
-      → accepted-plan n e .value ≡ begun n ((frame (n .table) (Known e)) .master) + 1
-  raised-begin e k write m a ok plans is = ap (λ (p : Plan). p .value) plans ∙ sym (ap (λ (x : Agent). begun n x + 1) (framed-master n e ok ∙ is))
-
   raised-accepted : (e : Event) → Accepted n e → accepted-plan n e .raises ≡ true → accepted-plan n e .value ≡ begun n ((frame (n .table) (Known e)) .master) + 1
-  unfolding accepted-plan
-  raised-accepted (BeginPosted m a) ok h = raised-begin (BeginPosted m a) P true m a ok refl refl
-  raised-accepted (BeginRead m a) ok h = raised-begin (BeginRead m a) R false m a ok refl refl
-  raised-accepted (BeginWrite m a) ok h = raised-begin (BeginWrite m a) R true m a ok refl refl
-  raised-accepted (Commit N t) ok h = absurd (true-false (sym h))
-  raised-accepted (Post N t) ok h = absurd (true-false (sym h))
-  raised-accepted (Latch N t) ok h = absurd (true-false (sym h))
-  raised-accepted (Complete N t) ok h = absurd (true-false (sym h))
-  raised-accepted (DropRequest N t) ok h = absurd (true-false (sym h))
-  raised-accepted (DropCompletion N t) ok h = absurd (true-false (sym h))
+  unfolding accepted-plan value
+  raised-accepted e ok h = rw (h, framed-master n e ok)
 
   pub raised-value : (d : Decoded) → (record-plan n d) .raises ≡ true → (record-plan n d) .value ≡ begun n ((frame (n .table) d) .master) + 1
   unfolding record-plan plan

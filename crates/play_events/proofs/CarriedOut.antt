@@ -47,11 +47,11 @@ use Rattle.events.specs.declared.Decoded.the-variants.{Known}
 use Rattle.read_events.specs.declared.Frame.{Frame}
 use Rattle.judge_events.specs.declared.Plan.{Plan}
 use Rattle.events.specs.Tests.{entry-at, ahead}
-use Rattle.events.specs.Effects.{leaves, is-marked, enters, answer-taken, answer-given, begins, new-entry, effects, after}
+use Rattle.events.specs.Effects.{leaves, is-marked, enters, answer-taken, answer-given, begins, new-entry, effects, after, value}
 use Rattle.events.specs.Grounds.{begin-grounds, named-grounds, grounds, Accepted}
 use Rattle.events.specs.Accounts.{account}
 use Rattle.read_events.specs.Frames.{begin-frame, named-frame, frame}
-use Rattle.judge_events.specs.Plans.{at-channel, no-act, does, refused-plan, begin-plan, entering, answer-leaving, answer-entering, accepted-plan, carried-out}
+use Rattle.judge_events.specs.Plans.{at-channel, no-act, does, refused-plan, begin-plan, entering, answer-leaving, answer-entering, accepted-plan, carried-out, acts-of}
 use Rattle.events.proofs.Kept.{rules-stay}
 
 -- ---- the entry that a change names is found under its own name
@@ -259,7 +259,7 @@ module _ (s u : Net) (small : Small u) where
 
     -- commit, and the two drops
     done-commit : Accepted s (Commit N t) → Small (then (Commit N t)) → Done (Commit N t) (t .master) (accepted-plan s (Commit N t))
-    unfolding accepted-plan effects edits grounds
+    unfolding accepted-plan acts-of value effects edits grounds
     done-commit ok end =
         let h = there R _ (clear (grounds s (Commit N t)) ok) in
         done-three (Commit N t) (t .master) end (accepted-plan s (Commit N t)) refl (alone (at-channel N (Mark (entry-at s R N t))) ∙ got-its-mark s R N t h u)
@@ -277,7 +277,7 @@ module _ (s u : Net) (small : Small u) where
 
     -- post
     done-post : Accepted s (Post N t) → Small (then (Post N t)) → Done (Post N t) (t .master) (accepted-plan s (Post N t))
-    unfolding accepted-plan effects edits grounds
+    unfolding accepted-plan acts-of value effects edits grounds
     done-post ok end =
         let h = there P _ (clear (grounds s (Post N t)) ok) in
         let x = entry-at s P N t in
@@ -288,7 +288,7 @@ module _ (s u : Net) (small : Small u) where
 
     -- latch
     done-latch : Accepted s (Latch N t) → Small (then (Latch N t)) → Done (Latch N t) (t .master) (accepted-plan s (Latch N t))
-    unfolding accepted-plan effects edits grounds
+    unfolding accepted-plan acts-of value effects edits grounds
     done-latch ok end =
         let h = there R _ (clear (grounds s (Latch N t)) ok) in
         let x = entry-at s R N t in
@@ -299,7 +299,7 @@ module _ (s u : Net) (small : Small u) where
 
     -- complete
     done-complete : Accepted s (Complete N t) → Small (then (Complete N t)) → Done (Complete N t) (t .master) (accepted-plan s (Complete N t))
-    unfolding accepted-plan effects edits grounds
+    unfolding accepted-plan acts-of value effects edits grounds
     done-complete ok end =
         let h = there R _ (clear (grounds s (Complete N t)) ok) in
         let x = entry-at s R N t in
@@ -313,15 +313,15 @@ module _ (s u : Net) (small : Small u) where
         (take-out-length x) (leaving-shrinks (s .table) N1 x)
 
     done-drop-request : Accepted s (DropRequest N t) → Small (then (DropRequest N t)) → Done (DropRequest N t) (t .master) (accepted-plan s (DropRequest N t))
-    unfolding accepted-plan effects grounds
+    unfolding accepted-plan acts-of value effects grounds
     done-drop-request ok end = done-drop (DropRequest N t) R end (there R _ (clear (grounds s (DropRequest N t)) ok)) refl refl
 
     done-drop-completion : Accepted s (DropCompletion N t) → Small (then (DropCompletion N t)) → Done (DropCompletion N t) (t .master) (accepted-plan s (DropCompletion N t))
-    unfolding accepted-plan effects grounds
+    unfolding accepted-plan acts-of value effects grounds
     done-drop-completion ok end = done-drop (DropCompletion N t) C end (there C _ (clear (grounds s (DropCompletion N t)) ok)) refl refl
 
   done : (e : Event) → Accepted s e → Small (then e) → Done e (account e .name .master) (accepted-plan s e)
-  unfolding accepted-plan effects
+  unfolding accepted-plan acts-of value effects
   done (BeginPosted m a) ok end = done-begin (BeginPosted m a) P true m a end refl refl
   done (BeginRead m a) ok end = done-begin (BeginRead m a) R false m a end refl refl
   done (BeginWrite m a) ok end = done-begin (BeginWrite m a) R true m a end refl refl

@@ -34,7 +34,8 @@ use Rattle.events.specs.declared.Decoded.the-variants.{Known, Unfit}
 use Rattle.judge_events.specs.declared.Plan.{Plan}
 use Rattle.events.specs.Tests.{ahead, entry-at}
 use Rattle.events.specs.Grounds.{begin-grounds, named-grounds, grounds, Accepted}
-use Rattle.judge_events.specs.Plans.{entering, answer-leaving, answer-entering, refused-plan, begin-plan, accepted-plan, plan, record-plan}
+use Rattle.events.specs.Effects.{value}
+use Rattle.judge_events.specs.Plans.{entering, answer-leaving, answer-entering, refused-plan, begin-plan, accepted-plan, plan, record-plan, acts-of}
 use Rattle.read_events.specs.Sights.{small}
 use Rattle.read_events.proofs.Onward.{Onward, next-onward}
 
@@ -78,7 +79,7 @@ module _ (s : Net) (ok : table-passes (s .table) ≡ true) where
   given-there N x h = split (is-master T N) (λ m. rw m zero-there) (λ m. rw m (opposing T N h m .there))
 
   accepted-there : (e : Event) → Clear (grounds s e) → Reached T (accepted-plan s e)
-  unfolding grounds accepted-plan
+  unfolding grounds accepted-plan acts-of value
   accepted-there (BeginPosted m a) c = begin-there P true m a c
   accepted-there (BeginRead m a) c = begin-there R false m a c
   accepted-there (BeginWrite m a) c = begin-there R true m a c

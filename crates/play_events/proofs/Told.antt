@@ -33,10 +33,10 @@ use Rattle.read_events.specs.declared.Sight.{Sight}
 use Rattle.judge_events.specs.declared.Plan.{Plan}
 use Rattle.events.specs.Tests.{ahead, entry-at, is-target, is-channel-with, full-ahead, answer-full, behind-a-P}
 use Rattle.events.specs.Grounds.{begin-grounds, named-grounds, grounds}
-use Rattle.events.specs.Effects.{new-entry}
+use Rattle.events.specs.Effects.{new-entry, value}
 use Rattle.events.specs.Accounts.{account}
 use Rattle.read_events.specs.Frames.{frame, begin-frame, named-frame, refused-frame, look-at, next-of, look-back, sight}
-use Rattle.judge_events.specs.Plans.{at-channel, no-act, does, entering, refused-plan, begin-plan, accepted-plan, plan-by, plan, record-plan}
+use Rattle.judge_events.specs.Plans.{at-channel, no-act, does, entering, refused-plan, begin-plan, accepted-plan, plan-by, plan, record-plan, acts-of}
 use Rattle.read_events.proofs.Onward.{by-place}
 use Rattle.judge_events.specs.Verdicts.{begin-verdict, post-verdict, latch-verdict-to, latch-verdict, complete-verdict-to, complete-verdict, verdict, frame-verdict}
 
@@ -90,7 +90,7 @@ module _ (s : Net) where
 
   module _ (N : Chan) (t : Transaction) (h : Named N t) where
     told-commit : told (Commit N t) ≡ plan s (Commit N t)
-    unfolding verdict plan grounds named-grounds accepted-plan look-at look-of
+    unfolding verdict plan grounds named-grounds accepted-plan acts-of value look-at look-of
     told-commit = simp (decided, flipped, h .0, h .1)
 
     -- where the entry is there the next place is asked
@@ -99,7 +99,7 @@ module _ (s : Net) where
     next-there e m f = rw (m, f)
 
     told-post : told (Post N t) ≡ plan s (Post N t)
-    unfolding verdict plan grounds named-grounds accepted-plan look-at look-of sight
+    unfolding verdict plan grounds named-grounds accepted-plan acts-of value look-at look-of sight
     told-post =
         split (stands P t (waiting s N))
         (λ f.
@@ -108,7 +108,7 @@ module _ (s : Net) where
         (λ f. post-gone N (look-at s (Post N t)) (next-of s (Post N t)) (full-ahead s P (t .master) (next-of s (Post N t))) f ∙ simp (decided, h .0, h .1, f))
 
     told-latch : told (Latch N t) ≡ plan s (Latch N t)
-    unfolding verdict plan grounds named-grounds accepted-plan look-at look-of match-of sight
+    unfolding verdict plan grounds named-grounds accepted-plan acts-of value look-at look-of match-of sight
     told-latch =
         split (stands R t (waiting s N))
         (λ f.
@@ -118,7 +118,7 @@ module _ (s : Net) where
         (λ f. latch-gone N (look-at s (Latch N t)) (next-of s (Latch N t)) (sight s (Latch N t)) f ∙ simp (decided, h .0, h .1, f))
 
     told-complete : told (Complete N t) ≡ plan s (Complete N t)
-    unfolding verdict plan grounds named-grounds accepted-plan look-at look-of match-of sight
+    unfolding verdict plan grounds named-grounds accepted-plan acts-of value look-at look-of match-of sight
     told-complete =
         split (stands R t (waiting s N))
         (λ f.
@@ -128,11 +128,11 @@ module _ (s : Net) where
         (λ f. complete-gone (s .table) N (look-at s (Complete N t)) (next-of s (Complete N t)) (sight s (Complete N t)) f ∙ simp (decided, h .0, h .1, f))
 
     told-drop-request : told (DropRequest N t) ≡ plan s (DropRequest N t)
-    unfolding verdict plan grounds named-grounds accepted-plan look-at look-of
+    unfolding verdict plan grounds named-grounds accepted-plan acts-of value look-at look-of
     told-drop-request = simp (decided, flipped, h .0, h .1)
 
     told-drop-completion : told (DropCompletion N t) ≡ plan s (DropCompletion N t)
-    unfolding verdict plan grounds named-grounds accepted-plan look-at look-of sight
+    unfolding verdict plan grounds named-grounds accepted-plan acts-of value look-at look-of sight
     told-drop-completion = simp (decided, flipped, h .0, h .1)
 
   -- ---- the frame in front: 1, 2, 3
@@ -171,7 +171,7 @@ module _ (s : Net) where
         (λ p. ap framed (rw p) ∙ refused-framed 1 ∙ sym (own ∙ simp (decided, p)))
 
   pub told-record : (d : Decoded) → framed (frame (s .table) d) ≡ record-plan s d
-  unfolding record-plan plan grounds frame-verdict verdict sight accepted-plan
+  unfolding record-plan plan grounds frame-verdict verdict sight accepted-plan acts-of value
   told-record Unfit = refused-framed 0
   told-record (Known (BeginPosted m a)) = framed-begin (BeginPosted m a) m a P true refl refl
   told-record (Known (BeginRead m a)) = framed-begin (BeginRead m a) m a R false refl refl

@@ -7,8 +7,11 @@ use chassis::channels::is_master;
 use chassis::channels::opposite;
 use events::Event;
 use network::limits::full_in;
+use queue::C;
 use queue::Channel;
 use queue::Look;
+use queue::P;
+use queue::R;
 use queue::Transaction;
 ghost use mathlib.Core.Path.{_≡_};
 ghost use mathlib.Core.Bool.{false};
@@ -67,7 +70,7 @@ fn full_back(t: Table, n: Chan, c: Channel) -> bool
     if is_master(t, n) {
         return false;
     }
-    full_in(t, 3, c)
+    full_in(t, C, c)
 }
 
 fn sees_full(full: bool) -> Sight
@@ -87,7 +90,7 @@ fn look_back(next: NextPlace, request: Entry, c: Channel) -> Look
 {
     match next {
         NextPlace::Target => Look::dull(),
-        NextPlace::Through(_) => c.matching(3, request),
+        NextPlace::Through(_) => c.matching(C, request),
     }
 }
 
@@ -98,7 +101,7 @@ fn waits_ahead(next: NextPlace, request: Entry, c: Channel) -> bool
     match next {
         NextPlace::Target => false,
         NextPlace::Through(_) => {
-            let l = c.matching(2, request);
+            let l = c.matching(R, request);
             l.found
         }
     }
@@ -107,7 +110,7 @@ fn waits_ahead(next: NextPlace, request: Entry, c: Channel) -> bool
 fn sight_latch(t: Table, next: NextPlace, request: Entry, ahead: Channel, answer: Channel) -> Sight
     ensures { λ r. ⌜ r ≡ sight-told t next request (live answer) (live ahead) (live answer) (live answer) (Event.Latch (record { 0 = 0 }) (request .transaction)) ⌝ }
 {
-    let full = full_ahead(t, 2, next, ahead);
+    let full = full_ahead(t, R, next, ahead);
     let waits = waits_ahead(next, request, ahead);
     let back = look_back(next, request, answer);
     Sight {
@@ -167,15 +170,15 @@ pub fn sight_of(
         Event::BeginPosted {
             master: _,
             target: _,
-        } => sees_full(full_in(t, 1, here)),
+        } => sees_full(full_in(t, P, here)),
         Event::BeginRead {
             master: _,
             target: _,
-        } => sees_full(full_in(t, 2, here)),
+        } => sees_full(full_in(t, R, here)),
         Event::BeginWrite {
             master: _,
             target: _,
-        } => sees_full(full_in(t, 2, here)),
+        } => sees_full(full_in(t, R, here)),
         Event::Commit {
             channel: _,
             transaction: _,
@@ -183,7 +186,7 @@ pub fn sight_of(
         Event::Post {
             channel: _,
             transaction: _,
-        } => sees_full(full_ahead(t, 1, next, ahead)),
+        } => sees_full(full_ahead(t, P, next, ahead)),
         Event::Latch {
             channel: _,
             transaction: _,
