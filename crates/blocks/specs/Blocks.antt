@@ -1,13 +1,12 @@
 -- A block's bytes, its check, its grounds in order, the table and the records that it holds.
 use Prim.Native.Nat.{ℕ, zero, suc, _+_, _*_}
-use mathlib.Core.Bool.{Bool, true, false, cond, not, _&&_, _||_}
-use mathlib.Core.List.{List, [], _∷_, _++_, map}
+use mathlib.Core.Bool.{Bool, cond, not, _&&_, _||_}
+use mathlib.Core.List.{List, [], _∷_, map}
 use lib.ListN.{length, take, drop, getD}
 use lib.Seq.{slice}
 use lib.Dec.{leb, eqb}
 use Rattle.base.specs.Lists.{all, parts}
 use Rattle.base.specs.Grounds.{Ground, _when_}
-use Rattle.chassis.specs.declared.Bus.{Bus}
 use Rattle.chassis.specs.declared.Bridge.{Bridge}
 use Rattle.chassis.specs.declared.Table.{Table}
 use Rattle.chassis.specs.Numbers.{bus}

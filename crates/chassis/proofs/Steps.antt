@@ -1,11 +1,10 @@
 -- On a table that passes, the way from a to b taken one bridge on is the way from there: each step is one bridge nearer.
 use Prim.Native.Nat.{ℕ, _<_}
-use mathlib.Core.Path.{_≡_, refl, sym, subst, _∙_}
+use mathlib.Core.Path.{_≡_, refl, subst}
 use mathlib.Core.Bool.{Bool, true, false}
 use mathlib.Core.List.{List, [], _∷_}
 use Rattle.chassis.specs.declared.Bus.{Bus}
 use Rattle.chassis.specs.declared.Table.{Table}
-use Rattle.chassis.specs.Channels.{first-bus, second-bus}
 use Rattle.chassis.specs.Ways.{Hop, hop, from, to, Onward, Way}
 use Rattle.chassis.specs.Routes.{way}
 use Rattle.chassis.specs.Tables.{table-passes}

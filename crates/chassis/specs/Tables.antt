@@ -1,10 +1,10 @@
 -- Grounds 23 to 27 of a table, in their order.
-use Prim.Native.Nat.{ℕ, _+_, _-_, _*_}
+use Prim.Native.Nat.{ℕ}
 use mathlib.Core.Bool.{Bool, false, not, _&&_, _||_}
 use mathlib.Core.List.{List, [], _∷_}
-use mathlib.Core.Option.{Option, none, some}
+use mathlib.Core.Option.{some}
 use lib.ListN.{take, drop, replicate}
-use lib.Dec.{ltb, leb, eqb}
+use lib.Dec.{leb, eqb}
 use Rattle.base.specs.Lists.{all, any, is-some}
 use Rattle.base.specs.Grounds.{Ground, _when_, refusal}
 use Rattle.chassis.specs.declared.Bus.{Bus}

@@ -1,10 +1,10 @@
 // Grounds 23 to 27 of a table, in their order.
 
 ghost use mathlib.Core.Path.{_≡_};
-ghost use mathlib.Core.Bool.{true, _&&_};
+ghost use mathlib.Core.Bool.{true};
 ghost use Prim.Native.Nat.{_<_};
-ghost use lib.ListN.{take, drop};
-ghost use Rattle.base.specs.Lists.{all, any};
+ghost use lib.ListN.{drop};
+ghost use Rattle.base.specs.Lists.{all};
 ghost use Rattle.chassis.specs.Channels.{has-bus};
 ghost use Rattle.chassis.specs.Tables.{within, is-zero-bus, is-zero-bridge, has-both-buses, is-on-one-bus, counts-in-range, unused-are-zero, buses-are-there, a-bridge-on-one-bus, bridges-of, homes-of};
 ghost use Rattle.chassis.specs.Routes.{loop-free, all-joined, one-way};

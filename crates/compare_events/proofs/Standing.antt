@@ -1,10 +1,8 @@
 -- A record's foot stands for its footing, and two feet clash flag by flag.
 -- A flag that is down stands for a part that is not there.
-use mathlib.Core.Path.{_≡_, refl, sym, ap, _∙_}
+use mathlib.Core.Path.{_≡_, refl, _∙_}
 use mathlib.Core.Bool.{Bool, true, false, _||_}
-use mathlib.Core.Option.{Option, none, some}
-use Rattle.chassis.specs.declared.Bus.{Bus}
-use Rattle.chassis.specs.declared.Agent.{Agent}
+use mathlib.Core.Option.{none}
 use Rattle.chassis.specs.declared.Chan.{Chan}
 use Rattle.chassis.specs.declared.Table.{Table}
 use Rattle.chassis.specs.declared.NextPlace.{NextPlace}
@@ -16,10 +14,10 @@ use Rattle.events.specs.declared.Event.{Event}
 use Rattle.events.specs.declared.Event.the-variants.{BeginPosted, BeginRead, BeginWrite, Commit, Post, Latch, Complete, DropRequest, DropCompletion}
 use Rattle.events.specs.Tests.{ahead}
 use Rattle.queue.specs.Entries.{R}
-use Rattle.ticks.specs.Footings.{Name, Footing, footing, taken-from}
+use Rattle.ticks.specs.Footings.{footing, taken-from}
 use Rattle.ticks.specs.Conflicts.{alike, same-name, is-C-of, clash}
 use Rattle.compare_events.specs.declared.Foot.{Foot}
-use Rattle.compare_events.specs.Feet.{given, name-of, footing-of, take-foot, foot, both-and, one-bus, one-beginner, one-name, dropped-tried, dropped-taken, dropped-both}
+use Rattle.compare_events.specs.Feet.{given, name-of, footing-of, take-foot, foot, both-and, one-bus, one-beginner, dropped-tried, dropped-taken, dropped-both}
 
 -- ---- two feet
 

@@ -2,13 +2,12 @@
 use Prim.Native.Nat.{ℕ}
 use mathlib.Core.Bool.{Bool, true, false, cond}
 use mathlib.Core.Option.{Option, none, some}
-use lib.Dec.{eqb}
 use Rattle.chassis.specs.declared.Agent.{Agent}
 use Rattle.chassis.specs.declared.Chan.{Chan}
 use Rattle.chassis.specs.declared.Table.{Table}
 use Rattle.chassis.specs.declared.NextPlace.{NextPlace}
 use Rattle.chassis.specs.declared.NextPlace.the-variants.{Target, Through}
-use Rattle.chassis.specs.Numbers.{agent, bus, chan, same-agent, same-bus, same-chan}
+use Rattle.chassis.specs.Numbers.{agent, bus, chan, same-agent, same-bus}
 use Rattle.chassis.specs.Channels.{out-bus, opposite}
 use Rattle.queue.specs.declared.Transaction.{Transaction}
 use Rattle.queue.specs.Entries.{R, C}

@@ -13,7 +13,6 @@ use queue::R;
 use queue::Transaction;
 ghost use mathlib.Core.Path.{_≡_};
 ghost use mathlib.Core.Bool.{true, false};
-ghost use Prim.Native.Nat.{_<_};
 ghost use Rattle.chassis.specs.Channels.{has-chan};
 ghost use Rattle.chassis.specs.Tables.{table-passes};
 ghost use Rattle.events.specs.Accounts.{account};

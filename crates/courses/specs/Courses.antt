@@ -16,7 +16,7 @@ use Rattle.queue.specs.declared.Entry.{Entry}
 use Rattle.queue.specs.Entries.{P, R, C, is-of}
 use Rattle.network.specs.Nets.{Net, waiting, begun}
 use Rattle.events.specs.declared.Event.{Event}
-use Rattle.events.specs.declared.Event.the-variants.{BeginPosted, BeginRead, BeginWrite, Commit, Post, Latch, Complete, DropRequest, DropCompletion}
+use Rattle.events.specs.declared.Event.the-variants.{BeginPosted, BeginRead, BeginWrite, Commit, Latch, Complete, DropRequest}
 use Rattle.events.specs.Accounts.{account}
 use Rattle.events.specs.Effects.{next-number}
 use Rattle.courses.specs.Pieces.{Piece, piece, held-in}

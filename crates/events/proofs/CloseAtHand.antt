@@ -1,12 +1,11 @@
 -- Errors close at hand, shut out: what an accepted latch and an accepted complete have found.
 use Prim.Native.Nat.{ℕ}
 use mathlib.Core.Path.{_≡_, subst}
-use mathlib.Core.Bool.{Bool, true, false, not, _&&_, _||_}
+use mathlib.Core.Bool.{Bool, false, not, _&&_}
 use mathlib.Core.Option.{some}
-use mathlib.Core.List.{[], _∷_}
 use borrow.Author.Tests.{not-false}
 use Rattle.base.specs.Lists.{find, is-some, or-else}
-use Rattle.base.proofs.Logic.{or-false, and-true}
+use Rattle.base.proofs.Logic.{or-false}
 use Rattle.base.proofs.Grounds.{clear}
 use Rattle.base.proofs.Lists.{found-passes, is-there}
 use Rattle.chassis.specs.declared.Chan.{Chan}

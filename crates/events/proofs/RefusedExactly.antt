@@ -2,9 +2,8 @@
 -- Of every model that meets the step, whatever is handed in.
 use Prim.Native.Nat.{ℕ}
 use mathlib.Core.Path.{_≡_, refl, sym, ap, _∙_}
-use mathlib.Core.Bool.{true, false, not}
-use mathlib.Core.List.{List, [], _∷_, _++_}
-use mathlib.Core.Option.{Option, none, some}
+use mathlib.Core.List.{List, _++_}
+use mathlib.Core.Option.{none, some}
 use lib.ListN.{length}
 use lib.Dec.{eqb}
 use Rattle.base.specs.Grounds.{Ground, refusal}
@@ -14,7 +13,6 @@ use Rattle.network.specs.Nets.{view}
 use Rattle.network.specs.Soundness.{sound}
 use Rattle.events.specs.declared.Decoded.{Decoded}
 use Rattle.events.specs.declared.Decoded.the-variants.{Known, Unfit}
-use Rattle.events.specs.declared.Answer.{Answer}
 use Rattle.events.specs.declared.Answer.the-variants as answer
 use Rattle.events.specs.declared.Outcome.{Outcome}
 use Rattle.events.specs.Records.{decoded}

@@ -1,7 +1,7 @@
 -- For each kind its grounds in its order, from 2 on; 16, 18 and 1 stand in front (Steps.antt). One line a ground.
 use Prim.Native.Nat.{ℕ}
 use mathlib.Core.Path.{_≡_}
-use mathlib.Core.Bool.{Bool, not, _&&_}
+use mathlib.Core.Bool.{not, _&&_}
 use mathlib.Core.List.{List, [], _∷_}
 use mathlib.Core.Option.{none}
 use lib.Dec.{leb}

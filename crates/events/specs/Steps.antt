@@ -1,6 +1,6 @@
 -- The single step: 16, 18, 1, then the kind's grounds. A refusal has value 0 and the state unchanged.
 use Prim.Native.Nat.{ℕ}
-use mathlib.Core.Bool.{Bool, true, cond, not}
+use mathlib.Core.Bool.{true, cond, not}
 use mathlib.Core.List.{List, [], _∷_}
 use mathlib.Core.Option.{Option, none, some}
 use lib.ListN.{length}

@@ -5,10 +5,9 @@ use chassis::Agent;
 use chassis::Chan;
 use queue::Transaction;
 ghost use mathlib.Core.Path.{_≡_};
-ghost use mathlib.Core.Bool.{Bool, true};
 ghost use Prim.Native.Nat.{_+_, _*_, _<_, _≤_};
 ghost use lib.ListN.{length, take, drop};
-ghost use Rattle.events.specs.Records.{begin-event, named-event, begin-unused-zero, other-unused-zero, rest-is-zero, number-in, decoded};
+ghost use Rattle.events.specs.Records.{begin-event, named-event, begin-unused-zero, other-unused-zero, rest-is-zero, decoded};
 
 // Two bytes, low first.
 fn word(low: u8, high: u8) -> u16

@@ -1,5 +1,5 @@
 -- A complete's verdict where N1 is the target, and where it is a bridge channel: the two ends of its judge, over values alone.
-use mathlib.Core.Path.{_≡_, refl}
+use mathlib.Core.Path.{_≡_}
 use mathlib.Core.Bool.{true, false}
 use Rattle.chassis.specs.declared.Chan.{Chan}
 use Rattle.chassis.specs.declared.Table.{Table}

@@ -1,5 +1,5 @@
 -- What a judge says: a refusal, or the effects of an accepted event as changes of channels.
-use Prim.Native.Nat.{ℕ, _+_, _<_}
+use Prim.Native.Nat.{ℕ, _+_}
 use mathlib.Core.Bool.{Bool, true, false, cond}
 use mathlib.Core.Option.{Option, none, some}
 use lib.ListN.{getD}

@@ -1,6 +1,6 @@
 -- What a judge says from what it is told, kind by kind. That it is the plan of the state it was told of: steps/proofs/Told.antt.
 use Prim.Native.Nat.{ℕ, _+_}
-use mathlib.Core.Bool.{Bool, true, false, cond, not, _&&_, _||_}
+use mathlib.Core.Bool.{Bool, true, false, cond, not, _&&_}
 use lib.Dec.{leb, eqb}
 use Rattle.chassis.specs.declared.Agent.{Agent}
 use Rattle.chassis.specs.declared.Chan.{Chan}
@@ -10,7 +10,7 @@ use Rattle.chassis.specs.declared.NextPlace.the-variants.{Target, Through}
 use Rattle.chassis.specs.Channels.{is-master, master-channel, opposite}
 use Rattle.queue.specs.declared.Look.{Look}
 use Rattle.queue.specs.declared.Change.the-variants.{Add, TakeOut, TakeMatching, Mark}
-use Rattle.queue.specs.Entries.{P, R, C, as-kind}
+use Rattle.queue.specs.Entries.{P, R, as-kind}
 use Rattle.network.specs.declared.Act.{Act}
 use Rattle.events.specs.declared.Event.{Event}
 use Rattle.events.specs.declared.Event.the-variants.{BeginPosted, BeginRead, BeginWrite, Commit, Post, Latch, Complete, DropRequest, DropCompletion}

@@ -1,5 +1,5 @@
 // The log's text, written into a buffer that the caller lends. Each writer returns the place behind what it wrote.
-ghost use mathlib.Core.List.{_∷_, []};
+ghost use mathlib.Core.List.{_∷_};
 ghost use Prim.Native.Nat.{_+_, _≤_};
 ghost use lib.ListN.{length};
 ghost use Rattle.lines.specs.Lines.{decimal, numbers, line-of, text, net, e, t, stop, end};

@@ -2,8 +2,8 @@
 -- step comes before the table.
 use Prim.Native.Nat.{ℕ, zero, suc, _+_, _*_, _<_, _≤_}
 use mathlib.Core.Path.{_≡_, refl, ap, sym, subst, _∙_}
-use mathlib.Core.Bool.{Bool, true, false, cond, not, _&&_, _||_}
-use mathlib.Core.List.{List, [], _∷_, _++_, append-nil}
+use mathlib.Core.Bool.{Bool, true, false, not, _&&_, _||_}
+use mathlib.Core.List.{List, [], _∷_, append-nil}
 use mathlib.Core.Option.{Option, none}
 use native.Mathlib.Omega.{arith}
 use borrow.Author.Tests.{eq-eqb, not-true}
@@ -34,7 +34,7 @@ use Rattle.events.proofs.SoundStays.{Right, record-step-right}
 use Rattle.play_ticks.proofs.TickPlayed.{tick-right}
 use Rattle.blocks.specs.declared.BlockAnswer.{BlockAnswer}
 use Rattle.blocks.specs.declared.BlockAnswer.the-variants.{Refused, Network, Steps, Tick}
-use Rattle.blocks.specs.Blocks.{block-kind, block-place, record-count, record-bytes, block-records, bridge-records, table-of, stray-in-table, kind-place-count-are-right, content-grounds, block-grounds}
+use Rattle.blocks.specs.Blocks.{block-kind, block-place, record-count, record-bytes, bridge-records, table-of, stray-in-table, kind-place-count-are-right, content-grounds, block-grounds}
 use Rattle.blocks.specs.Answers.{accepted-as, block-answer}
 use Rattle.logs.specs.code.Runs.{run-lines, run-state, goes-on}
 use Rattle.logs.specs.Logs.{steps, entries-left, block-played}

@@ -1,9 +1,9 @@
 -- The lines of a tick block: what playing it with an answer list of any length leaves is what the definition prints.
 -- Neither the answer nor the state depends on the places that are lent, if they are enough.
 use Prim.Native.Nat.{ℕ, _/_, _%_, _≤_}
-use mathlib.Core.Path.{_≡_, refl, sym, ap, subst, _∙_}
+use mathlib.Core.Path.{_≡_, refl, sym, ap, _∙_}
 use mathlib.Core.Bool.{true, false}
-use mathlib.Core.List.{List, [], _∷_, _++_, map, append-nil}
+use mathlib.Core.List.{List, [], _++_, map, append-nil}
 use native.Mathlib.Omega.{arith}
 use lib.ListN.{length, getD, drop, replicate, length-replicate, length-map, drop-of-length-le}
 use Rattle.base.proofs.Logic.{split, true-false}

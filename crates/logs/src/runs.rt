@@ -17,7 +17,7 @@ use play_ticks::at_once::play_tick;
 use ticks::TickAnswer;
 ghost use mathlib.Core.Path.{_≡_};
 ghost use mathlib.Core.Bool.{true};
-ghost use Prim.Native.Nat.{_+_, _*_, _/_, _≤_};
+ghost use Prim.Native.Nat.{_+_, _*_, _≤_};
 ghost use lib.ListN.{length};
 ghost use Rattle.chassis.specs.Capacities.{most-records};
 ghost use Rattle.network.specs.Soundness.{sound};

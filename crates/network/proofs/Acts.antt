@@ -7,9 +7,7 @@ use lib.ListN.{length, getD, set}
 use lib.Seq.{set-out, set-getD}
 use Rattle.base.specs.Lists.{modify}
 use Rattle.chassis.specs.declared.Agent.{Agent}
-use Rattle.chassis.specs.declared.Chan.{Chan}
 use Rattle.queue.specs.declared.Entry.{Entry}
-use Rattle.queue.specs.declared.Channel.{Channel}
 use Rattle.queue.specs.declared.Change.{Change}
 use Rattle.queue.specs.code.Changes.{changes}
 use Rattle.queue.specs.code.Methods.{changed-to}

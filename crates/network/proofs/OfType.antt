@@ -1,7 +1,7 @@
 -- Every value of the declared type is shaped: the arrays have their places, which the checker knows of a parameter's type,
 -- for each channel too.
-use Prim.Native.Nat.{ℕ, zero, suc, _<_, _≤_}
-use mathlib.Core.Path.{_≡_, refl, sym, _∙_}
+use Prim.Native.Nat.{ℕ, zero, suc, _<_}
+use mathlib.Core.Path.{_≡_}
 use mathlib.Core.List.{List, [], _∷_, map}
 use native.Mathlib.Omega.{arith}
 use borrow.Author.Needs.{needs}
@@ -11,10 +11,9 @@ use base.Fml.{Fml}
 use denote.Array.{each}
 use denote.Shadow.{shadow}
 use denote.Laws.{Is}
-use lib.ListN.{length, getD, length-map}
-use Rattle.base.proofs.Walks.{owned, length-mapped}
+use lib.ListN.{length, getD}
+use Rattle.base.proofs.Walks.{owned}
 use Rattle.chassis.specs.Capacities.{most-channels}
-use Rattle.queue.specs.declared.Channel.{Channel}
 use Rattle.queue.specs.Packing.{channel-places}
 use Rattle.queue.proofs.Channel as C
 use Rattle.network.proofs.State as S

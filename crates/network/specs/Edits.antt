@@ -1,5 +1,5 @@
 -- What events do to a state is made of three edits.
-use Prim.Native.Nat.{ℕ, _+_}
+use Prim.Native.Nat.{_+_}
 use mathlib.Core.Bool.{Bool}
 use mathlib.Core.List.{List, [], _∷_, _++_}
 use Rattle.base.specs.Lists.{alter, modify}

@@ -1,5 +1,4 @@
 -- When a state is sound, clause by clause in document 01's order.
-use Prim.Native.Nat.{ℕ}
 use mathlib.Core.Bool.{Bool, cond, not, _&&_, _||_}
 use mathlib.Core.List.{List}
 use lib.ListN.{drop}
@@ -12,7 +11,6 @@ use Rattle.chassis.specs.Channels.{has-agent, chan-count}
 use Rattle.chassis.specs.Routes.{on-the-way, opposes-the-way}
 use Rattle.chassis.specs.Tables.{table-passes, within}
 use Rattle.queue.specs.declared.Entry.{Entry}
-use Rattle.queue.specs.declared.Channel.{Channel}
 use Rattle.queue.specs.Entries.{P, R, C, is-kind, is-zero-entry}
 use Rattle.queue.specs.Packing.{channel-places}
 use Rattle.network.specs.declared.State.{State}

@@ -1,9 +1,8 @@
 -- On a sound state a record's plan carried out is its step, with the step's own number and value.
 use Prim.Native.Nat.{ℕ, _+_}
 use mathlib.Core.Path.{_≡_, refl, ap, sym, subst, _∙_}
-use mathlib.Core.Bool.{Bool, true, false, cond}
+use mathlib.Core.Bool.{true, false, cond}
 use mathlib.Core.List.{List, []}
-use mathlib.Core.Option.{none, some}
 use Rattle.base.specs.Grounds.{refusal}
 use lib.ListN.{getD, set}
 use Rattle.base.proofs.Logic.{split, there, true-false}
@@ -20,7 +19,7 @@ use Rattle.queue.specs.declared.Look.{Look}
 use Rattle.queue.specs.code.Changes.{look-of}
 use Rattle.queue.specs.code.Methods.{changed-to}
 use Rattle.queue.specs.Packing.{live}
-use Rattle.queue.specs.Entries.{P, R, is-named}
+use Rattle.queue.specs.Entries.{is-named}
 use Rattle.queue.specs.Queues.{oldest, stands, the}
 use Rattle.network.specs.declared.State.{State}
 use Rattle.network.specs.Nets.{Net, view, pack, waiting, begun}
@@ -34,9 +33,8 @@ use Rattle.judge_events.specs.declared.Plan.{Plan}
 use Rattle.events.specs.Grounds.{grounds, Accepted}
 use Rattle.events.specs.Effects.{after, value}
 use Rattle.read_events.specs.Frames.{frame}
-use Rattle.judge_events.specs.Plans.{refused-plan, begin-plan, accepted-plan, plan, record-plan, carried-out, acts-of}
+use Rattle.judge_events.specs.Plans.{refused-plan, accepted-plan, plan, record-plan, carried-out}
 use Rattle.events.specs.Steps.{inner-step, record-step, refusal-number, answer-value}
-use Rattle.events.specs.declared.Event.the-variants.{BeginPosted, BeginRead, BeginWrite, Commit, Post, Latch, Complete, DropRequest, DropCompletion}
 use Rattle.events.specs.Accounts.{account}
 use Rattle.events.proofs.SoundStays.{Right}
 use Rattle.play_events.proofs.Shown.{shows}

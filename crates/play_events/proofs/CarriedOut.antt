@@ -1,17 +1,16 @@
 -- A plan carried out is the step: its changes of channels are the event's effects, and every list on the way fits its
 -- places, since changes that come before the last only take out or mark.
-use Prim.Native.Nat.{ℕ, zero, suc, _+_, _<_, _≤_}
+use Prim.Native.Nat.{ℕ, zero, suc, _+_, _≤_}
 use mathlib.Core.Path.{_≡_, refl, ap, sym, subst, _∙_}
 use mathlib.Core.Bool.{Bool, true, false, cond, _&&_}
 use mathlib.Core.List.{List, [], _∷_, _++_}
-use mathlib.Core.Option.{Option, none, some}
+use mathlib.Core.Option.{none}
 use native.Mathlib.Omega.{arith}
 use native.Mathlib.Nat.{le-trans}
 use borrow.Author.Tests.{ltb-true, ltb-false, not-false}
 use lib.Dec.{ltb}
 use lib.ListN.{length, getD, set, List·getD-eq-default}
-use lib.Seq.{set-getD}
-use Rattle.base.specs.Lists.{find, alter, modify, or-else}
+use Rattle.base.specs.Lists.{modify}
 use Rattle.base.specs.Grounds.{Ground, refusal}
 use Rattle.base.proofs.Logic.{split, and-true}
 use Rattle.base.proofs.Grounds.{Clear, clear}
@@ -25,7 +24,6 @@ use Rattle.chassis.specs.Channels.{has-agent, has-chan, is-master, master-chann
 use Rattle.chassis.specs.Numbers.{agent, chan}
 use Rattle.queue.specs.declared.Transaction.{Transaction}
 use Rattle.queue.specs.declared.Entry.{Entry}
-use Rattle.queue.specs.declared.Change.{Change}
 use Rattle.queue.specs.declared.Change.the-variants.{Nothing, Add, TakeOut, Mark}
 use Rattle.queue.specs.Entries.{P, R, C, is-named, as-kind, gone, marking}
 use Rattle.queue.specs.Queues.{stands}

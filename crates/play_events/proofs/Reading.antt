@@ -1,6 +1,6 @@
 -- What is read off a sound state for a record: every place that is looked at is there, and the plan of a judge that was told what
 -- stands in those places is the record's own plan.
-use Prim.Native.Nat.{ℕ, _<_}
+use Prim.Native.Nat.{_<_}
 use mathlib.Core.Path.{_≡_, refl, ap, sym, subst, _∙_}
 use mathlib.Core.Bool.{true}
 use native.Mathlib.Omega.{arith}

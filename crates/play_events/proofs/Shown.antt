@@ -3,7 +3,7 @@ use Prim.Native.Nat.{ℕ, _<_}
 use native.Mathlib.Omega.{arith}
 use borrow.Author.Tests.{ltb-true, lt-ltb}
 use mathlib.Core.Path.{_≡_, refl, ap, sym, subst, _∙_}
-use mathlib.Core.Bool.{Bool, true, false, cond, not, _&&_}
+use mathlib.Core.Bool.{Bool, true, false, cond}
 use mathlib.Core.List.{List, [], map}
 use lib.ListN.{getD, List·getD-map}
 use Rattle.base.proofs.Logic.{split}
@@ -13,20 +13,19 @@ use Rattle.chassis.specs.declared.Table.{Table}
 use Rattle.chassis.specs.declared.NextPlace.{NextPlace}
 use Rattle.chassis.specs.declared.NextPlace.the-variants.{Target, Through}
 use Rattle.chassis.specs.Numbers.{agent, same-agent}
-use Rattle.chassis.specs.Channels.{has-agent, has-chan, chan-count, is-master, master-channel, opposite}
+use Rattle.chassis.specs.Channels.{has-agent, has-chan, chan-count, is-master, master-channel}
 use Rattle.chassis.specs.Tables.{table-passes}
 use Rattle.chassis.proofs.Counts.{counts}
 use Rattle.chassis.proofs.Passing.{passed}
 use Rattle.queue.specs.declared.Transaction.{Transaction}
 use Rattle.queue.specs.declared.Entry.{Entry}
-use Rattle.queue.specs.declared.Channel.{Channel}
 use Rattle.queue.specs.declared.Look.{Look}
 use Rattle.queue.specs.Entries.{P, R, C}
 use Rattle.queue.specs.Queues.{has-matching}
 use Rattle.queue.specs.code.Changes.{look-of, match-of}
 use Rattle.queue.specs.Packing.{live}
 use Rattle.network.specs.declared.State.{State}
-use Rattle.network.specs.Nets.{Net, view, waiting, begun, full}
+use Rattle.network.specs.Nets.{Net, view, waiting, full}
 use Rattle.network.specs.Rooms.{room-for}
 use Rattle.network.specs.code.Acts.{channel-at}
 use Rattle.events.specs.declared.Event.{Event}

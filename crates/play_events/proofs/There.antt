@@ -1,9 +1,8 @@
 -- Every channel that a record's plan points to is a channel of the table.
-use Prim.Native.Nat.{ℕ, _+_, _*_, _<_}
-use mathlib.Core.Path.{_≡_, refl, ap, sym, subst, _∙_}
-use mathlib.Core.Bool.{Bool, true, false, cond, not, _&&_}
-use mathlib.Core.List.{List, [], _∷_}
-use mathlib.Core.Option.{Option, none, some}
+use Prim.Native.Nat.{ℕ}
+use mathlib.Core.Path.{_≡_}
+use mathlib.Core.Bool.{Bool, true, false, not, _&&_}
+use mathlib.Core.List.{List}
 use native.Mathlib.Omega.{arith}
 use borrow.Author.Tests.{ltb-true, lt-ltb, not-false}
 use Rattle.base.specs.Grounds.{Ground, refusal}
@@ -14,8 +13,7 @@ use Rattle.chassis.specs.declared.Chan.{Chan}
 use Rattle.chassis.specs.declared.Table.{Table}
 use Rattle.chassis.specs.declared.NextPlace.{NextPlace}
 use Rattle.chassis.specs.declared.NextPlace.the-variants.{Target, Through}
-use Rattle.chassis.specs.Channels.{has-agent, has-chan, chan-count, is-master, master-channel, opposite}
-use Rattle.chassis.specs.Routes.{next-place}
+use Rattle.chassis.specs.Channels.{has-agent, has-chan, chan-count, is-master}
 use Rattle.chassis.specs.Tables.{table-passes}
 use Rattle.chassis.proofs.Counts.{counts}
 use Rattle.chassis.proofs.Passing.{passed}
@@ -23,9 +21,7 @@ use Rattle.chassis.proofs.Hops.{opposing}
 use Rattle.chassis.proofs.OnTheWay.{next}
 use Rattle.queue.specs.declared.Transaction.{Transaction}
 use Rattle.queue.specs.declared.Entry.{Entry}
-use Rattle.queue.specs.declared.Look.{Look}
 use Rattle.queue.specs.Entries.{P, R, C, as-kind}
-use Rattle.network.specs.declared.Act.{Act}
 use Rattle.network.specs.Nets.{Net}
 use Rattle.events.specs.declared.Event.{Event}
 use Rattle.events.specs.declared.Event.the-variants.{BeginPosted, BeginRead, BeginWrite, Commit, Post, Latch, Complete, DropRequest, DropCompletion}
@@ -33,10 +29,9 @@ use Rattle.events.specs.declared.Decoded.{Decoded}
 use Rattle.events.specs.declared.Decoded.the-variants.{Known, Unfit}
 use Rattle.judge_events.specs.declared.Plan.{Plan}
 use Rattle.events.specs.Tests.{ahead, entry-at}
-use Rattle.events.specs.Grounds.{begin-grounds, named-grounds, grounds, Accepted}
+use Rattle.events.specs.Grounds.{begin-grounds, named-grounds, grounds}
 use Rattle.events.specs.Effects.{value}
 use Rattle.judge_events.specs.Plans.{entering, answer-leaving, answer-entering, refused-plan, begin-plan, accepted-plan, plan, record-plan, acts-of}
-use Rattle.read_events.specs.Sights.{small}
 use Rattle.read_events.proofs.Onward.{Onward, next-onward}
 
 -- ---- what a plan points to

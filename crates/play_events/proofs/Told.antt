@@ -1,9 +1,9 @@
 -- A judge that is told what a state shows gives the state's own plan: the frame has asked 1, 2 and 3, the verdict the rest.
-use Prim.Native.Nat.{ℕ, suc, _+_, _<_}
+use Prim.Native.Nat.{ℕ, suc}
 use mathlib.Core.Path.{_≡_, refl, sym, ap, _∙_}
-use mathlib.Core.Bool.{Bool, true, false, cond, not, _&&_, _||_}
-use mathlib.Core.List.{List, [], _∷_}
-use mathlib.Core.Option.{Option, none, some}
+use mathlib.Core.Bool.{Bool, true, false, cond, not, _||_}
+use mathlib.Core.List.{List}
+use mathlib.Core.Option.{Option, some}
 use borrow.Author.Tests.{ne-eqb}
 use native.Mathlib.Omega.{arith}
 use Rattle.base.specs.Grounds.{Ground, refusal}
@@ -12,16 +12,13 @@ use Rattle.chassis.specs.declared.Agent.{Agent}
 use Rattle.chassis.specs.declared.Chan.{Chan}
 use Rattle.chassis.specs.declared.Table.{Table}
 use Rattle.chassis.specs.declared.NextPlace.{NextPlace}
-use Rattle.chassis.specs.declared.NextPlace.the-variants.{Target, Through}
 use Rattle.chassis.specs.Numbers.{agent, chan, same-agent}
-use Rattle.chassis.specs.Channels.{has-agent, has-chan, is-master, master-channel, opposite}
-use Rattle.chassis.specs.Routes.{next-place}
+use Rattle.chassis.specs.Channels.{has-agent, has-chan, master-channel}
 use Rattle.queue.specs.declared.Transaction.{Transaction}
-use Rattle.queue.specs.declared.Entry.{Entry}
 use Rattle.queue.specs.declared.Look.{Look}
 use Rattle.queue.specs.declared.Change.the-variants.{TakeOut}
-use Rattle.queue.specs.Entries.{P, R, C, as-kind}
-use Rattle.queue.specs.Queues.{stands, the, behind-P, first-C}
+use Rattle.queue.specs.Entries.{P, R, C}
+use Rattle.queue.specs.Queues.{stands}
 use Rattle.queue.specs.code.Changes.{look-of, match-of}
 use Rattle.network.specs.Nets.{Net, waiting, begun, full}
 use Rattle.events.specs.declared.Event.{Event}
@@ -31,11 +28,11 @@ use Rattle.events.specs.declared.Decoded.the-variants.{Known, Unfit}
 use Rattle.read_events.specs.declared.Frame.{Frame}
 use Rattle.read_events.specs.declared.Sight.{Sight}
 use Rattle.judge_events.specs.declared.Plan.{Plan}
-use Rattle.events.specs.Tests.{ahead, entry-at, is-target, is-channel-with, full-ahead, answer-full, behind-a-P}
+use Rattle.events.specs.Tests.{ahead, full-ahead}
 use Rattle.events.specs.Grounds.{begin-grounds, named-grounds, grounds}
 use Rattle.events.specs.Effects.{new-entry, value}
 use Rattle.events.specs.Accounts.{account}
-use Rattle.read_events.specs.Frames.{frame, begin-frame, named-frame, refused-frame, look-at, next-of, look-back, sight}
+use Rattle.read_events.specs.Frames.{frame, begin-frame, named-frame, refused-frame, look-at, next-of, sight}
 use Rattle.judge_events.specs.Plans.{at-channel, no-act, does, entering, refused-plan, begin-plan, accepted-plan, plan-by, plan, record-plan, acts-of}
 use Rattle.read_events.proofs.Onward.{by-place}
 use Rattle.judge_events.specs.Verdicts.{begin-verdict, post-verdict, latch-verdict-to, latch-verdict, complete-verdict-to, complete-verdict, verdict, frame-verdict}

@@ -18,7 +18,7 @@ use read_events::sights::sight_of;
 ghost use mathlib.Core.Path.{_≡_};
 ghost use mathlib.Core.Bool.{true};
 ghost use Prim.Native.Nat.{_<_};
-ghost use Rattle.chassis.specs.Channels.{has-agent, has-chan};
+ghost use Rattle.chassis.specs.Channels.{has-chan};
 ghost use Rattle.chassis.specs.Tables.{table-passes};
 ghost use Rattle.check_tables.specs.Ladders.{ladder-of};
 ghost use Rattle.queue.specs.Packing.{live};

@@ -1,7 +1,7 @@
 -- From block to block the state stays sound, and the end of an input comes behind a block.
 use Prim.Native.Nat.{ℕ}
-use mathlib.Core.Path.{_≡_, refl, sym, subst}
-use mathlib.Core.Bool.{Bool, true, false, cond, not, _&&_}
+use mathlib.Core.Path.{_≡_, refl, sym}
+use mathlib.Core.Bool.{true, false, not}
 use mathlib.Core.List.{List}
 use borrow.Author.Tests.{eq-eqb, not-true}
 use lib.ListN.{length}
@@ -10,7 +10,6 @@ use Rattle.base.proofs.Logic.{split, and-true, true-false, both}
 use Rattle.network.specs.declared.State.{State}
 use Rattle.events.proofs.SoundStays.{Right}
 use Rattle.blocks.specs.Answers.{block-answer}
-use Rattle.logs.specs.code.Runs.{goes-on}
 use Rattle.logs.proofs.Running.{run-right}
 use Rattle.play_inputs.specs.Inputs.{is-end, next-goes-on, next-state}
 

@@ -1,25 +1,23 @@
 -- A whole input: its blocks handed to `play_next` one after the other, then its end, print the log of the definition.
 -- Each block by its answer is what `block-played` says; the end stands behind the last one.
-use Prim.Native.Nat.{ℕ, zero, suc, _≤_, _<_}
-use mathlib.Core.Path.{_≡_, refl, sym, ap, subst, _∙_}
-use mathlib.Core.Bool.{Bool, true, false, cond, not, _&&_}
-use mathlib.Core.List.{List, [], _∷_, _++_, append-nil}
-use mathlib.Core.Option.{Option, none, some}
+use Prim.Native.Nat.{ℕ, zero, suc}
+use mathlib.Core.Path.{_≡_, refl, ap}
+use mathlib.Core.Bool.{true, false, cond}
+use mathlib.Core.List.{List, [], _∷_, _++_}
+use mathlib.Core.Option.{none, some}
 use native.Mathlib.Omega.{arith}
-use borrow.Author.Tests.{eq-eqb, ne-eqb}
-use lib.ListN.{length, take, drop, length-take, length-drop}
+use borrow.Author.Tests.{ne-eqb}
+use lib.ListN.{length, take, drop, length-take}
 use lib.Dec.{eqb}
 use Rattle.base.specs.Grounds.{refusal}
 use Rattle.base.proofs.Logic.{split, there}
 use Rattle.network.specs.declared.State.{State}
 use Rattle.network.specs.Opening.{zero-state}
-use Rattle.blocks.specs.declared.BlockAnswer.{BlockAnswer}
-use Rattle.blocks.specs.declared.BlockAnswer.the-variants.{Refused, Network, Steps, Tick}
 use Rattle.blocks.specs.Blocks.{block-kind, block-grounds}
-use Rattle.blocks.specs.Answers.{accepted-as, answer-by, block-answer}
+use Rattle.blocks.specs.Answers.{accepted-as, block-answer}
 use Rattle.lines.specs.Lines.{Line, end, texts}
-use Rattle.logs.specs.Logs.{Ran, then-more, entries-left, block-played, blocks-played, cut, input-blocks, run, log}
-use Rattle.logs.specs.code.Runs.{run-lines, run-state, goes-on}
+use Rattle.logs.specs.Logs.{block-played, blocks-played, cut, input-blocks, run, log}
+use Rattle.logs.specs.code.Runs.{goes-on}
 use Rattle.logs.proofs.Running.{run-is-played}
 use Rattle.play_inputs.specs.Inputs.{is-end, next-goes-on, next-state, next-lines}
 

@@ -2,16 +2,13 @@
 -- Each is, after those before it, as it was at the start (`Again`): it does the same and says the same, so its first plan still is its plan.
 use Prim.Native.Nat.{ℕ, _+_}
 use mathlib.Core.Path.{_≡_, refl, sym, ap, subst, subst⁻¹, _∙_}
-use mathlib.Core.Bool.{Bool, true, cond}
+use mathlib.Core.Bool.{true, cond}
 use mathlib.Core.List.{List, [], _∷_, map}
 use mathlib.Core.Option.{Option}
 use lib.ListN.{getD}
-use Rattle.base.specs.Grounds.{refusal}
 use Rattle.base.proofs.Logic.{split}
 use Rattle.base.proofs.Orders.{All, all-map, all-both}
 use Rattle.chassis.specs.declared.Agent.{Agent}
-use Rattle.chassis.specs.Numbers.{agent}
-use Rattle.chassis.specs.Tables.{table-passes}
 use Rattle.network.specs.declared.State.{State}
 use Rattle.network.specs.Nets.{Net, view, pack, begun}
 use Rattle.network.specs.Edits.{Edit, edits}
@@ -20,7 +17,7 @@ use Rattle.network.proofs.Good.{Good, sound-is-good}
 use Rattle.network.proofs.Packing.{sound-is-packed, view-pack}
 use Rattle.events.specs.declared.Event.{Event}
 use Rattle.events.specs.declared.Decoded.the-variants.{Known}
-use Rattle.events.specs.Grounds.{grounds, Accepted}
+use Rattle.events.specs.Grounds.{Accepted}
 use Rattle.events.specs.Effects.{effects, after, value}
 use Rattle.events.specs.Accounts.{account}
 use Rattle.events.proofs.SoundStays.{Right, sound-stays-sound, shaped-stays-shaped}
@@ -32,7 +29,6 @@ use Rattle.play_events.proofs.Carried.{accepted-value, accepted-raises, raised-
 use Rattle.ticks.specs.Ticks.{end-of}
 use Rattle.ticks.proofs.Begins.{Again}
 use Rattle.ticks.proofs.OrderCannotMatter.{Agreeing, rest-stands, rest-agrees}
-use Rattle.play_ticks.specs.declared.Turn.{Turn}
 use Rattle.play_ticks.specs.Turns.{turn, turned, all-turned, turn-values}
 
 -- an accepted event's plan

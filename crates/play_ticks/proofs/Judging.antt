@@ -1,14 +1,14 @@
 -- The records of a tick judged one by one against the starting state: what is left to judge, judged from here, gives the tick's answer.
 -- No record before this one is refused; a refused one ends the search; where none is, the turns' feet are the events' footings.
-use Prim.Native.Nat.{ℕ, suc, _+_, _*_, _/_, _<_, _≤_}
+use Prim.Native.Nat.{ℕ, _+_, _*_, _/_, _<_, _≤_}
 use mathlib.Core.Path.{_≡_, refl, sym, ap, subst, subst⁻¹, _∙_}
-use mathlib.Core.Bool.{Bool, true, false, cond, _&&_}
+use mathlib.Core.Bool.{false}
 use mathlib.Core.List.{List, [], _∷_, _++_, map, append-nil}
 use mathlib.Core.Option.{Option, none, some}
 use native.Mathlib.Omega.{arith}
 use native.Mathlib.Numerals.{add-one}
 use borrow.Author.Tests.{not-false}
-use lib.ListN.{length, getD, take, drop, set, replicate, length-set, length-take, length-replicate, take-append-drop, drop-of-length-le}
+use lib.ListN.{length, take, drop, set, replicate, length-set, length-take, length-replicate, take-append-drop, drop-of-length-le}
 use lib.Seq.{drop-set-lt, drop-drop}
 use Rattle.base.specs.Grounds.{refusal}
 use Rattle.base.proofs.Grounds.{clear}
@@ -16,7 +16,6 @@ use Rattle.base.proofs.Orders.{All}
 use Rattle.base.proofs.Walks.{rest-on}
 use Rattle.base.proofs.Writing.{filled-on}
 use Rattle.chassis.specs.declared.Chan.{Chan}
-use Rattle.chassis.specs.declared.NextPlace.{NextPlace}
 use Rattle.chassis.specs.Capacities.{most-records}
 use Rattle.queue.specs.declared.Transaction.{Transaction}
 use Rattle.queue.specs.Entries.{R}

@@ -4,7 +4,7 @@ use Prim.Native.Nat.{ℕ, suc, _+_, _<_, _≤_}
 use mathlib.Core.Path.{_≡_, refl, sym, ap, _∙_}
 use mathlib.Core.Bool.{Bool, true, false, cond}
 use mathlib.Core.List.{List, [], _∷_, map}
-use mathlib.Core.Option.{Option, none, some}
+use mathlib.Core.Option.{none, some}
 use native.Mathlib.Omega.{arith}
 use lib.ListN.{length, getD, take, drop, length-take}
 use native.Mathlib.Numerals.{add-one}
@@ -12,7 +12,6 @@ use Rattle.base.proofs.Logic.{split, there}
 use Rattle.base.proofs.Walks.{walk-on, walk-over}
 use Rattle.network.specs.Nets.{Net}
 use Rattle.events.specs.declared.Event.{Event}
-use Rattle.ticks.specs.declared.TickAnswer.{TickAnswer}
 use Rattle.ticks.specs.declared.TickAnswer.the-variants.{Accepted, Conflict}
 use Rattle.ticks.specs.Footings.{Footing, footing}
 use Rattle.ticks.specs.Conflicts.{clash, conflict}

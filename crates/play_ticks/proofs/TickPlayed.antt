@@ -7,11 +7,10 @@ use native.Mathlib.Omega.{arith}
 use lib.ListN.{length, getD, take, drop, replicate, length-map}
 use lib.Seq.{getD-take, take-at}
 use Rattle.base.proofs.Logic.{split, there, true-false}
-use Rattle.base.proofs.Orders.{All}
 use Rattle.chassis.specs.Capacities.{most-record-bytes, most-records}
 use Rattle.find_routes.proofs.Places.{agent-low}
 use Rattle.network.specs.declared.State.{State}
-use Rattle.network.specs.Nets.{Net, view, pack}
+use Rattle.network.specs.Nets.{view, pack}
 use Rattle.events.specs.declared.Event.{Event}
 use Rattle.events.specs.declared.Decoded.{Decoded}
 use Rattle.events.specs.declared.Decoded.the-variants.{Known}

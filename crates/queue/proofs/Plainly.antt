@@ -15,7 +15,7 @@ use Rattle.chassis.specs.Numbers.{same-agent}
 use Rattle.queue.specs.declared.Transaction.{Transaction}
 use Rattle.queue.specs.declared.Entry.{Entry}
 use Rattle.queue.specs.Entries.{P, C, is-kind, same-transaction, is-named}
-use Rattle.queue.specs.Queues.{oldest, stands, behind-P, first-C, filling}
+use Rattle.queue.specs.Queues.{behind-P, first-C, filling}
 use Rattle.queue.specs.code.Changes.{look-by, dull}
 
 -- a transaction is its master and its number: no other master's, whatever the target

@@ -1,8 +1,8 @@
 -- Where a record leads on a table that passes: the next place is the target or a bridge channel, and every channel that is looked at
 -- is one of those that a state has.
-use Prim.Native.Nat.{ℕ, _<_}
+use Prim.Native.Nat.{_<_}
 use mathlib.Core.Path.{_≡_, refl}
-use mathlib.Core.Bool.{Bool, true, false}
+use mathlib.Core.Bool.{true, false}
 use native.Mathlib.Omega.{arith}
 use borrow.Author.Tests.{ltb-true}
 use Rattle.base.proofs.Logic.{split}
@@ -11,7 +11,7 @@ use Rattle.chassis.specs.declared.Chan.{Chan}
 use Rattle.chassis.specs.declared.Table.{Table}
 use Rattle.chassis.specs.declared.NextPlace.{NextPlace}
 use Rattle.chassis.specs.declared.NextPlace.the-variants.{Target, Through}
-use Rattle.chassis.specs.Channels.{has-chan, chan-count, is-master, opposite}
+use Rattle.chassis.specs.Channels.{has-chan, chan-count, is-master}
 use Rattle.chassis.specs.Routes.{next-place}
 use Rattle.chassis.specs.Tables.{table-passes}
 use Rattle.chassis.specs.Capacities.{most-channels}

@@ -1,6 +1,6 @@
 -- What is read off a record before any channel is looked at, and what is then looked at.
 use Prim.Native.Nat.{ℕ}
-use mathlib.Core.Bool.{Bool, true, false, cond, _&&_}
+use mathlib.Core.Bool.{Bool, false, cond, _&&_}
 use Rattle.chassis.specs.declared.Agent.{Agent}
 use Rattle.chassis.specs.declared.Chan.{Chan}
 use Rattle.chassis.specs.declared.Table.{Table}

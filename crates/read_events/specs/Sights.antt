@@ -1,7 +1,7 @@
 -- What is told of the channels that were read: N's own entries, N1's, those of N1's opposite and of N's opposite; r is the entry that
 -- the event names, which others are matched to. That it is what the state shows: play_events/proofs/Shown.antt.
 use Prim.Native.Nat.{ℕ, _<_}
-use mathlib.Core.Bool.{Bool, true, false, cond, not, _&&_}
+use mathlib.Core.Bool.{Bool, false, cond, not, _&&_}
 use mathlib.Core.List.{List}
 use Rattle.chassis.specs.declared.Chan.{Chan}
 use Rattle.chassis.specs.declared.Table.{Table}
@@ -9,7 +9,6 @@ use Rattle.chassis.specs.declared.NextPlace.{NextPlace}
 use Rattle.chassis.specs.declared.NextPlace.the-variants.{Target, Through}
 use Rattle.chassis.specs.Channels.{is-master}
 use Rattle.chassis.specs.Routes.{next-place}
-use Rattle.queue.specs.declared.Transaction.{Transaction}
 use Rattle.queue.specs.declared.Entry.{Entry}
 use Rattle.queue.specs.declared.Look.{Look}
 use Rattle.queue.specs.Entries.{P, R, C}

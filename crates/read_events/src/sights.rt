@@ -9,6 +9,7 @@ use events::Event;
 use network::limits::full_in;
 use queue::C;
 use queue::Channel;
+use queue::Entry;
 use queue::Look;
 use queue::P;
 use queue::R;

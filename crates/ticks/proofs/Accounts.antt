@@ -1,6 +1,6 @@
 -- Every accepted event has an account: its guards and deeds, each with its right; where its guards hold again, so does all that is said of it.
 -- One account a kind, put together from pieces in the order of its grounds.
-use Prim.Native.Nat.{ℕ, _+_}
+use Prim.Native.Nat.{ℕ}
 use native.Mathlib.Omega.{arith}
 use mathlib.Core.Path.{_≡_, refl, sym, ap, subst, subst⁻¹, _∙_}
 use mathlib.Core.Logic.{inl, inr}

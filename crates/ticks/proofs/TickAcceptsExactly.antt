@@ -1,6 +1,6 @@
 -- From a sound state the tick accepts exactly the records that are known, accepted alone and without conflict, and ends where single steps lead.
 -- Its searches find nothing exactly there; and in listed order, one of the orders that cannot matter, no step is refused and each value is its own.
-use Prim.Native.Nat.{ℕ, zero, suc, _+_, _-_, _*_, _/_, _%_, _≤_}
+use Prim.Native.Nat.{ℕ, zero, suc, _*_, _/_, _%_, _≤_}
 use native.Mathlib.Omega.{arith}
 use mathlib.Core.Path.{_≡_, refl, sym, ap, subst, subst⁻¹, _∙_}
 use mathlib.Core.Logic.{_↔_}

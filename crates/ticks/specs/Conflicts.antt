@@ -1,5 +1,4 @@
 -- Two events conflict exactly when one of (a) to (e) holds.
-use Prim.Native.Nat.{ℕ}
 use mathlib.Core.Bool.{Bool, false, _&&_, _||_}
 use mathlib.Core.Option.{Option, none, some}
 use lib.Dec.{eqb}

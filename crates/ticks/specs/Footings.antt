@@ -1,6 +1,5 @@
 -- What two events are compared by: where an event occurs, who begins, which entry it tries or drops, where it takes a C.
 use Prim.Native.Nat.{ℕ}
-use mathlib.Core.Bool.{Bool}
 use mathlib.Core.Option.{Option, none, some}
 use Rattle.chassis.specs.declared.Agent.{Agent}
 use Rattle.chassis.specs.declared.Bus.{Bus}

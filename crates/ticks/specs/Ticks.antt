@@ -1,6 +1,6 @@
 -- The tick: 16, 18, 17; the lowest record refused alone in the starting state; the lowest conflicting pair; the end state.
 use Prim.Native.Nat.{ℕ, suc, _/_, _%_}
-use mathlib.Core.Bool.{Bool, true, false, not, _||_}
+use mathlib.Core.Bool.{true, false, not, _||_}
 use mathlib.Core.List.{List, [], _∷_, _++_}
 use mathlib.Core.Option.{Option, none, some}
 use lib.ListN.{length, drop}

@@ -1,14 +1,13 @@
 -- Every trial that document 01 marks with *, as a row of one table, under one statement about the definitions.
 use Prim.Native.Nat.{ℕ}
 use mathlib.Core.Path.{_≡_, refl}
-use mathlib.Core.Bool.{true, false}
 use mathlib.Core.List.{List, [], _∷_, _++_, map}
 use Rattle.base.specs.Lists.{find, alter, count, all, any, all-from, modify, parts, from-to}
 use Rattle.chassis.specs.Channels.{out-bus, in-bus, opposite}
 use Rattle.chassis.specs.Routes.{component, loop-free, all-joined, one-way, way-over, next-place, on-the-way, opposes-the-way}
 use Rattle.chassis.specs.Answers.{table-answer}
 use Rattle.chassis.specs.Tables.{counts-in-range, unused-are-zero, buses-are-there, a-bridge-on-one-bus, table-grounds, table-passes, zero-table}
-use Rattle.queue.specs.Entries.{P, R, C, is-named, matches, marked, as-kind, is-zero-entry}
+use Rattle.queue.specs.Entries.{P, C, is-named, matches, marked, as-kind, is-zero-entry}
 use Rattle.queue.specs.Queues.{behind-P, first-C}
 use Rattle.network.specs.declared.State.{State}
 use Rattle.network.specs.Rooms.{room-for, rooms}
@@ -16,7 +15,7 @@ use Rattle.network.specs.Nets.{view, pack, empty-net}
 use Rattle.network.specs.Soundness as Soundness
 use Rattle.network.specs.Opening.{zero-state, opened}
 use Rattle.network.specs.Edits.{edit, edits}
-use Rattle.events.specs.Records.{rest-is-zero, begin-unused-zero, other-unused-zero, begin-event, named-event, decoded, records}
+use Rattle.events.specs.Records.{decoded, records}
 use Rattle.events.specs.Grounds.{begin-grounds, named-grounds, grounds}
 use Rattle.events.specs.Effects.{new-entry, effects, value, after}
 use Rattle.events.specs.Steps.{record-grounds, inner-step, step-grounds, step}

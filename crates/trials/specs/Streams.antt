@@ -1,5 +1,5 @@
 -- Streams of blocks as a fitter would write them down, and states as a reader would draw them.
-use Prim.Native.Nat.{ℕ, zero, suc, _+_, _-_, _*_, _/_, _%_}
+use Prim.Native.Nat.{ℕ, _-_, _/_, _%_}
 use mathlib.Core.List.{List, [], _∷_, _++_, map}
 use mathlib.Core.Bool.{Bool, true, false}
 use lib.ListN.{length, getD, drop, set, replicate}
@@ -9,7 +9,7 @@ use Rattle.chassis.specs.Capacities.{most-agents, most-channels}
 use Rattle.queue.specs.declared.Entry.{Entry}
 use Rattle.queue.specs.Entries.{P, R, C}
 use Rattle.network.specs.declared.State.{State}
-use Rattle.network.specs.Nets.{Net, pack}
+use Rattle.network.specs.Nets.{pack}
 use Rattle.blocks.specs.Blocks.{weighed, bridge-records}
 
 -- ---- bytes

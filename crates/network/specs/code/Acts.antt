@@ -1,7 +1,6 @@
 -- A change of one channel, as lists and as declared; and what three changes and a count make of a state.
-use Prim.Native.Nat.{ℕ, _+_}
-use mathlib.Core.Bool.{Bool, cond}
-use mathlib.Core.List.{List, []}
+use Prim.Native.Nat.{ℕ}
+use mathlib.Core.List.{[]}
 use lib.ListN.{getD, set}
 use Rattle.base.specs.Lists.{modify}
 use Rattle.chassis.specs.declared.Agent.{Agent}

@@ -1,6 +1,4 @@
 -- `is_end` meets its contract.
-use mathlib.Core.Bool.{false}
-use mathlib.Core.Path.{refl}
 use borrow.Author.Tests.{eq-eqb, ne-eqb}
 use Rattle.play_inputs.specs.Inputs.{is-end}
 use Rattle.play_inputs.proofs.is_end.Statement.{statement}

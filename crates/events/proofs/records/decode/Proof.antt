@@ -4,7 +4,6 @@ use borrow.Author.Needs.{needs}
 use borrow.Author.Tests.{lt-ltb, le-ltb, not-true, not-false}
 use Rattle.events.specs.Records.{decoded}
 use mathlib.Core.Path.{sym, _∙_}
-use Rattle.base.proofs.Cases.{cases}
 use Rattle.events.proofs.records.decode.Statement.{statement}
 use Rattle.events.proofs.records.decode.Tie as tie
 

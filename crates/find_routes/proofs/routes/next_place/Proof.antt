@@ -1,5 +1,4 @@
 -- `next_place` makes the ladder and asks it.
-use borrow.Author.Needs.{needs}
 use Rattle.find_routes.proofs.Places.{in-range}
 use Rattle.find_routes.proofs.routes.next_place.Statement.{statement}
 use Rattle.find_routes.proofs.routes.next_place.Tie as tie

@@ -1,7 +1,6 @@
 -- `gives_answer` gives the verdict of its definition.
 -- The idea: each early return is a ground, in the kind's own order; the last return is what is to be done.
 use mathlib.Core.Path.{sym, _∙_}
-use Rattle.base.proofs.Cases.{cases}
 use borrow.Author.Needs.{needs}
 use Rattle.judge_events.proofs.judges.gives_answer.Statement.{statement}
 use Rattle.judge_events.proofs.judges.gives_answer.Tie as tie

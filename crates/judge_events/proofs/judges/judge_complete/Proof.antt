@@ -3,7 +3,7 @@
 use Rattle.read_events.specs.Sights.{small}
 use mathlib.Core.Path.{subst}
 use Rattle.judge_events.proofs.Completing.{at-the-target, through-a-bridge}
-use mathlib.Core.Path.{sym, _∙_}
+use mathlib.Core.Path.{_∙_}
 use borrow.Author.Tests.{not-false}
 use Rattle.base.proofs.Cases.{cases}
 use borrow.Author.Needs.{needs}

@@ -7,7 +7,6 @@ use Rattle.lines.proofs.Texts.{written-one, written-on, written-length}
 use borrow.Author.Needs.{needs}
 use Rattle.lines.proofs.lines.put_number.Statement.{statement}
 use Rattle.lines.proofs.lines.put_number.Tie as tie
-use Rattle.lines.proofs.lines.put_decimal.Reads as put-decimal-reads
 
 slice-write-out : tie.Need-slice-write-out
 slice-write-out c = search needs

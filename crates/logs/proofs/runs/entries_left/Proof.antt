@@ -4,11 +4,10 @@ use Rattle.logs.proofs.Running.{left-turn, none-left}
 use Rattle.logs.specs.Logs.{entries-left}
 use Rattle.network.proofs.Packing.{sound-opened}
 use Rattle.base.proofs.Walks.{owned}
-use mathlib.Core.Path.{_≡_, refl}
+use mathlib.Core.Path.{_≡_}
 use native.Mathlib.Omega.{arith}
 use lib.ListN.{length, drop}
 use Prim.Native.Nat.{_≤_, _+_, _-_, _*_}
-use borrow.Author.Needs.{needs}
 use Rattle.chassis.specs.Capacities.{most-channels}
 use Rattle.queue.specs.Packing.{channel-places}
 use Rattle.logs.proofs.runs.entries_left.Statement.{statement}

@@ -1,9 +1,8 @@
 -- `play_cycle` plays a tick block and prints its lines.
 -- The idea: the tick does not depend on how many places are lent, and its values stand at the front of them (`Ticking`).
-use mathlib.Core.Path.{_≡_, refl, ap, sym, subst, _∙_}
+use mathlib.Core.Path.{_≡_, ap, sym, _∙_}
 use native.Mathlib.Omega.{arith}
 use Prim.Native.Nat.{ℕ}
-use mathlib.Core.List.{List}
 use borrow.Author.Tests.{not-true, not-false}
 use lib.ListN.{length, getD, replicate}
 use Rattle.base.proofs.Made.{replicate-at}
@@ -11,7 +10,7 @@ use Rattle.network.proofs.OfType.{of-type}
 use Rattle.events.proofs.SoundStays.{Right}
 use Rattle.blocks.proofs.Accepted.{length-record-bytes}
 use Rattle.lines.proofs.Texts.{written-on, written-length}
-use Rattle.logs.proofs.Ticking.{tick-fits, same-state, refused-texts, accepted-texts}
+use Rattle.logs.proofs.Ticking.{same-state, refused-texts, accepted-texts}
 use borrow.Author.Needs.{needs}
 use Rattle.chassis.specs.Capacities.{most-records}
 use Rattle.logs.proofs.runs.play_cycle.Statement.{statement}

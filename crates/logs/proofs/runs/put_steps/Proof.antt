@@ -5,8 +5,8 @@ use Rattle.logs.proofs.Stepping.{texts-turn, texts-over}
 use Rattle.lines.proofs.Texts.{ToWrite, to-write-all, to-write-on, to-write-none, to-write-length}
 use Rattle.logs.specs.code.Plays.{step-texts}
 use native.Mathlib.Omega.{arith}
-use lib.ListN.{length, getD}
-use Prim.Native.Nat.{ℕ, suc, _≤_, _<_, _+_, _-_, _*_}
+use lib.ListN.{length}
+use Prim.Native.Nat.{ℕ, _≤_, _+_, _-_, _*_}
 use borrow.Author.Needs.{needs}
 use Rattle.logs.proofs.runs.put_steps.Statement.{statement}
 use Rattle.logs.proofs.runs.put_steps.Tie as tie

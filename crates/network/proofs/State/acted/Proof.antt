@@ -1,9 +1,8 @@
 -- `acted` changes one channel as its definition does.
 -- The idea: a channel that is not there changes nothing.
 use Rattle.network.proofs.Acts.{acted-beyond}
-use mathlib.Core.Path.{_≡_, refl}
+use mathlib.Core.Path.{_≡_}
 use Rattle.base.proofs.Walks.{owned}
-use Prim.Native.Nat.{_≤_}
 use lib.ListN.{length}
 use native.Mathlib.Omega.{arith}
 use Rattle.network.specs.code.Acts.{acted-on}

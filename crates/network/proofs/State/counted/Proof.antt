@@ -3,7 +3,6 @@
 use Rattle.network.proofs.Acts.{counted-beyond}
 use mathlib.Core.Path.{_≡_, refl}
 use Rattle.base.proofs.Walks.{owned}
-use Prim.Native.Nat.{_≤_}
 use lib.ListN.{length}
 use native.Mathlib.Omega.{arith}
 use Rattle.network.specs.code.Acts.{counted}

@@ -1,7 +1,7 @@
 -- `play` plays records one by one: state, refusals and values are those of the definition.
 -- The idea: what is left to do, done from here, is the whole (`Playing`); a turn reads what the state shows, so its plan is the record's own, and stores what the step stores.
 use lib.ListN.{length}
-use mathlib.Core.Path.{_≡_, refl, ap, sym, _∙_}
+use mathlib.Core.Path.{refl, ap, sym, _∙_}
 use Rattle.check_tables.specs.Ladders.{ladder-of}
 use Rattle.find_routes.proofs.Places.{in-range}
 use Rattle.network.proofs.OfType.{of-type}
@@ -13,7 +13,7 @@ use Rattle.play_events.proofs.Reading.{Framed, framed, Noticed, noticed
 use Rattle.play_events.proofs.Playing.{Playing, at-first, one-more, no-more, places}
 use Rattle.base.proofs.Walks.{owned}
 use native.Mathlib.Omega.{arith}
-use Prim.Native.Nat.{_≤_, _<_, _+_, _-_, _*_, _/_}
+use Prim.Native.Nat.{_≤_, _<_, _+_, _-_, _/_}
 use Rattle.play_events.proofs.in_turn.play.Statement.{statement}
 use Rattle.play_events.proofs.in_turn.play.Tie as tie
 

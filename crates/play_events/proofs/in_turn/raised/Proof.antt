@@ -1,5 +1,4 @@
 -- `raised` is a begin's value, or the count as it was.
-use borrow.Author.Needs.{needs}
 use Rattle.play_events.proofs.in_turn.raised.Statement.{statement}
 use Rattle.play_events.proofs.in_turn.raised.Tie as tie
 

@@ -1,6 +1,6 @@
 -- `noticed` is what the record's own channel shows, with the channels beside it.
 -- The idea: each part is its definition's; the next place is a channel of the table, so the opposites can be asked for.
-use mathlib.Core.Path.{_≡_, ap, sym, subst, _∙_}
+use mathlib.Core.Path.{_≡_, sym, subst, _∙_}
 use native.Mathlib.Omega.{arith}
 use Rattle.queue.specs.Packing.{live}
 use Rattle.play_events.specs.Notices.{look-told, Aimed, notice}

@@ -3,8 +3,6 @@
 use borrow.Author.Tests.{eq-eqb, ne-eqb}
 use Rattle.play_events.proofs.steps.answer_of.Statement.{statement}
 use Rattle.play_events.proofs.steps.answer_of.Tie as tie
-use Rattle.play_events.proofs.steps.answer_of.Reads as reads
-use Rattle.play_events.proofs.steps.answer_of.Lts as lts
 
 -- src/steps.rt:19:9
 returns : tie.Need-returns

@@ -11,12 +11,6 @@ use Rattle.play_events.proofs.Single.{unsound-step, unfit-step, played-
 use borrow.Author.Needs.{needs}
 use Rattle.play_events.proofs.steps.step.Statement.{statement}
 use Rattle.play_events.proofs.steps.step.Tie as tie
-use Rattle.play_events.proofs.steps.step.Reads as reads
-use Rattle.play_events.proofs.steps.step.Lts as lts
-use Rattle.play_events.proofs.in_turn.play.Reads as play-reads
-use Rattle.play_events.proofs.steps.answer_of.Reads as answer-of-reads
-use Rattle.play_events.proofs.steps.refused.Reads as refused-reads
-use Rattle.network.proofs.soundness.is_sound.Reads as is-sound-reads
 
 -- src/steps.rt:34:9
 is-sound-requires : tie.Need-is-sound-requires

@@ -11,7 +11,6 @@ use Rattle.network.specs.Nets.{view}
 use Rattle.network.proofs.OfType.{of-type}
 use Rattle.events.specs.Records.{records}
 use Rattle.events.proofs.SoundStays.{Right}
-use Rattle.ticks.specs.declared.TickAnswer.{TickAnswer}
 use Rattle.ticks.specs.declared.TickAnswer.the-variants.{Accepted}
 use Rattle.ticks.specs.Ticks.{Ticked}
 use Rattle.play_ticks.specs.Turns.{turn, is-accepted, judged-answer}

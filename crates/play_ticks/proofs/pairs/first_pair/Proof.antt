@@ -1,7 +1,6 @@
 -- `first_pair` is the lowest first record of a conflicting pair and its lowest partner.
 -- The idea: what is left to compare, compared from here, finds what the whole search finds (`Seeking`, `Comparing`).
 use mathlib.Core.Path.{sym, _∙_}
-use lib.ListN.{length}
 use native.Mathlib.Omega.{arith}
 use Prim.Native.Nat.{_≤_, _-_}
 use Rattle.base.proofs.Walks.{owned}

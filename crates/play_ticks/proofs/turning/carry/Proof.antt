@@ -1,9 +1,8 @@
 -- `carry` carries turns out one after the other, and writes their values.
 -- The idea: what is left to do, done from here, is the whole (`Carrying`); a turn stores what its plan says.
-use mathlib.Core.Path.{_∙_}
 use lib.ListN.{length, getD}
 use native.Mathlib.Omega.{arith}
-use Prim.Native.Nat.{ℕ, _≤_, _<_, _-_, _+_}
+use Prim.Native.Nat.{ℕ, _≤_, _<_, _-_}
 use Rattle.base.proofs.Walks.{owned}
 use Rattle.chassis.specs.Capacities.{most-records}
 use Rattle.play_events.proofs.Carried.{stores}

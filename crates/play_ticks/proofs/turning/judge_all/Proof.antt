@@ -1,8 +1,8 @@
 -- `judge_all` is the tick's answer past 16, 18 and 17, with the turns of the records up to the first that is refused.
 -- The idea: what is left to judge, judged from here, gives the answer (`Judging`); each record is read off the one state.
-use mathlib.Core.Path.{_≡_, refl, ap, sym, subst, _∙_}
+use mathlib.Core.Path.{refl, ap, _∙_}
 use native.Mathlib.Omega.{arith}
-use Prim.Native.Nat.{ℕ, _≤_, _+_, _-_, _*_, _/_}
+use Prim.Native.Nat.{_≤_, _-_, _/_}
 use lib.ListN.{length, replicate}
 use Rattle.base.proofs.Walks.{owned}
 use Rattle.chassis.specs.Capacities.{most-records}
@@ -10,8 +10,6 @@ use Rattle.find_routes.proofs.Places.{in-range}
 use Rattle.network.specs.Nets.{view}
 use Rattle.network.proofs.OfType.{of-type}
 use Rattle.events.proofs.SoundStays.{Right}
-use Rattle.read_events.specs.declared.Frame.{Frame}
-use Rattle.judge_events.specs.declared.Plan.{Plan}
 use Rattle.play_events.proofs.Carried.{table-of}
 use Rattle.play_events.proofs.Reading.{Framed, framed, Noticed, noticed, Planned, planned}
 use Rattle.play_ticks.specs.Turns.{turn}

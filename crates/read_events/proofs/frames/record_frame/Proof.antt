@@ -1,7 +1,6 @@
 -- `record_frame` is its definition.
 -- The idea: each early return is the ground that holds first; the last is the event with its numbers.
 use borrow.Author.Needs.{needs}
-use Rattle.base.proofs.Cases.{cases}
 use Rattle.read_events.proofs.frames.record_frame.Statement.{statement}
 use Rattle.read_events.proofs.frames.record_frame.Tie as tie
 

@@ -1,7 +1,7 @@
 -- `answer_or` tells what its definition tells.
 -- The idea: each arm is a case of the definition, and the callees say the rest.
 use Rattle.read_events.specs.Sights.{small}
-use mathlib.Core.Path.{sym, subst, _∙_}
+use mathlib.Core.Path.{subst}
 use borrow.Author.Needs.{needs}
 use Rattle.read_events.proofs.sights.answer_or.Statement.{statement}
 use Rattle.read_events.proofs.sights.answer_or.Tie as tie

@@ -1,7 +1,7 @@
 -- `back_or` tells what its definition tells.
 -- The idea: each arm is a case of the definition, and the callees say the rest.
 use Rattle.read_events.specs.Frames.{back-or}
-use mathlib.Core.Path.{sym, subst, _∙_}
+use mathlib.Core.Path.{sym, _∙_}
 use borrow.Author.Needs.{needs}
 use Rattle.read_events.proofs.sights.back_or.Statement.{statement}
 use Rattle.read_events.proofs.sights.back_or.Tie as tie

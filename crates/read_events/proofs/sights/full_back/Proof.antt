@@ -1,6 +1,6 @@
 -- `full_back` tells what its definition tells.
 -- The idea: each arm is a case of the definition, and the callees say the rest.
-use mathlib.Core.Path.{sym, subst, _∙_}
+use mathlib.Core.Path.{sym, _∙_}
 use borrow.Author.Needs.{needs}
 use Rattle.read_events.proofs.sights.full_back.Statement.{statement}
 use Rattle.read_events.proofs.sights.full_back.Tie as tie
