@@ -90,7 +90,9 @@ plan-value s (Known e) = there (refusal (grounds (view s) e)) (λ h. rw h (accep
 module _ (n : Net) (g : Good n) where
   raised-accepted : (e : Event) → Accepted n e → accepted-plan n e .raises ≡ true → accepted-plan n e .value ≡ begun n ((frame (n .table) (Known e)) .master) + 1
   unfolding accepted-plan value
-  raised-accepted e ok h = rw (h, framed-master n e ok)
+  raised-accepted e ok h =
+      let v : value n e ≡ begun n (account e .name .master) + 1 = rw h in
+      v ∙ ap (λ (m : Agent). begun n m + 1) (sym (framed-master n e ok))
 
   pub raised-value : (d : Decoded) → (record-plan n d) .raises ≡ true → (record-plan n d) .value ≡ begun n ((frame (n .table) d) .master) + 1
   unfolding record-plan plan
