@@ -8,6 +8,7 @@ use chassis::Agent;
 use chassis::Bridge;
 use chassis::Bus;
 use chassis::Chan;
+use chassis::MOST_AGENTS;
 use chassis::NextPlace;
 use chassis::RouteAnswer;
 use chassis::Table;
@@ -32,7 +33,7 @@ fn chassis() -> Table {
     let mut pairs = [bridge(Bus(0), Bus(0)); 15];
     pairs[0] = bridge(Bus(0), Bus(1));
     pairs[1] = bridge(Bus(1), Bus(2));
-    let mut homes = [Bus(0); 32];
+    let mut homes = [Bus(0); MOST_AGENTS];
     homes[1] = Bus(1);
     homes[2] = Bus(2);
     homes[3] = Bus(2);
