@@ -1,19 +1,17 @@
 -- A sound state is packed from what is viewed of it, and what is packed is viewed as it was; a state that keeps the rules packs to a sound one.
 -- Channel by channel: behind a channel's number all is zero, so the number and the entries before it say everything.
-use Prim.Native.Nat.{ℕ, _-_, _≤_}
+use Prim.Native.Nat.{ℕ, _≤_}
 use mathlib.Core.Path.{_≡_, refl, sym, ap, _∙_}
-use mathlib.Core.Bool.{Bool, true, false, not, _&&_, _||_}
-use mathlib.Core.List.{List, [], _∷_, _++_, map}
+use mathlib.Core.Bool.{Bool, true, false, _&&_, _||_}
+use mathlib.Core.List.{List, [], map}
 use native.Mathlib.Omega.{arith}
-use borrow.Author.Tests.{eqb-true, eq-eqb, leb-true, le-leb, not-true}
-use lib.ListN.{getD, length, drop, replicate, length-drop, take-append-drop}
-use lib.Seq.{take-append-seam, drop-append-seam, length-take-le}
+use borrow.Author.Tests.{eqb-true, eq-eqb, leb-true, le-leb}
+use lib.ListN.{getD, length, drop, replicate}
 use lib.Dec.{leb, ltb, eqb}
 use Rattle.base.specs.Lists.{all, all-from}
 use Rattle.base.proofs.Logic.{split, and-true, true-and}
 use Rattle.base.proofs.Cells.{all-cell, cell-all, from-cell, cell-from, all-map, from-map, map-back}
 use Rattle.base.proofs.Made.{replicate-at}
-use Rattle.base.proofs.Padded.{filled-all}
 use Rattle.chassis.specs.declared.Agent.{Agent}
 use Rattle.chassis.specs.declared.Chan.{Chan}
 use Rattle.chassis.specs.declared.Table.{Table}
@@ -22,62 +20,15 @@ use Rattle.chassis.specs.Channels.{chan-count, has-agent}
 use Rattle.chassis.specs.Capacities.{most-agents, most-channels}
 use Rattle.queue.specs.declared.Entry.{Entry}
 use Rattle.queue.specs.declared.Channel.{Channel}
-use Rattle.queue.specs.Entries.{zero-entry, is-zero-entry}
+use Rattle.queue.specs.Entries.{is-zero-entry}
 use Rattle.queue.specs.Packing.{live, packed, channel-places}
+use Rattle.queue.proofs.Packed.{live-packed, packed-live, unused-of-packed}
 use Rattle.network.specs.declared.State.{State}
 use Rattle.network.specs.Nets.{Net, view, pack, empty-net, waiting, begun}
 use Rattle.network.specs.Soundness.{counts-fit, keeps-the-rules, unused-are-zero, sound}
 use Rattle.network.specs.Shapes.{no-channel, Shaped}
 use Rattle.network.proofs.Fits.{beyond-is-empty}
 use Rattle.network.proofs.Rules.{rules, within-its-places}
-
--- ---- one channel
-
-zero-path : (x : Entry) → x .transaction .master .0 ≡ 0 → x .transaction .number ≡ 0 → x .kind ≡ 0 → x .target .0 ≡ 0 → x .write ≡ false → x .committed ≡ false → x ≡ zero-entry
-zero-path x m n k t w c = λ i. record {
-  transaction = record { master = record { 0 = m i }; number = n i };
-  kind = k i;
-  target = record { 0 = t i };
-  write = w i;
-  committed = c i;
-}
-
-zero-is : (x : Entry) → is-zero-entry x ≡ true → x ≡ zero-entry
-unfolding is-zero-entry
-zero-is x h =
-    let m = eqb (x .transaction .master .0) 0 in
-    let n = eqb (x .transaction .number) 0 in
-    let k = eqb (x .kind) 0 in
-    let t = eqb (x .target .0) 0 in
-    let r5 = and-true (m && n && k && t && not (x .write)) (not (x .committed)) h in
-    let r4 = and-true (m && n && k && t) (not (x .write)) (r5 .0) in
-    let r3 = and-true (m && n && k) t (r4 .0) in
-    let r2 = and-true (m && n) k (r3 .0) in
-    let r1 = and-true m n (r2 .0) in
-    zero-path x (eqb-true (x .transaction .master .0) 0 (r1 .0)) (eqb-true (x .transaction .number) 0 (r1 .1)) (eqb-true (x .kind) 0 (r2 .1)) (eqb-true (x .target .0) 0 (r3 .1))
-    (not-true (x .write) (r4 .1)) (not-true (x .committed) (r5 .1))
-
-zeros-are : (l : List Entry) → all is-zero-entry l ≡ true → l ≡ replicate (length l) zero-entry
-unfolding all
-zeros-are [] h = refl
-zeros-are (x ∷ l) h =
-    let r = and-true (is-zero-entry x) (all is-zero-entry l) h in
-    ap (_∷ l) (zero-is x (r .0)) ∙ ap (zero-entry ∷_) (zeros-are l (r .1))
-
-pub live-packed : (l : List Entry) → live (packed l) ≡ l
-live-packed l = take-append-seam l (replicate (channel-places - length l) zero-entry)
-
-channel-path : (c : Channel) (n : ℕ) (l : List Entry) → n ≡ c .count → l ≡ c .entries → _≡_ {A = Channel} (record { entries = l; count = n }) c
-channel-path c n l p q = λ i. record { entries = q i; count = p i }
-
-pub packed-live : (c : Channel) → c .count ≤ channel-places → length (c .entries) ≡ channel-places → all is-zero-entry (drop (c .count) (c .entries)) ≡ true → packed (live c) ≡ c
-packed-live c h e z =
-    let n : length (live c) ≡ c .count = length-take-le (c .count) (c .entries) (omega arith) in
-    let d : length (drop (c .count) (c .entries)) ≡ channel-places - length (live c) = omega (arith, length-drop (c .count) (c .entries)) in
-    channel-path c (length (live c)) (live c ++ replicate (channel-places - length (live c)) zero-entry) n
-    (ap (λ (m : ℕ). live c ++ replicate m zero-entry) (sym d)
-    ∙ ap (live c ++_) (sym (zeros-are (drop (c .count) (c .entries)) z))
-    ∙ take-append-drop (c .count) (c .entries))
 
 -- ---- soundness, as facts of each channel and count
 
@@ -123,7 +74,7 @@ sound-is-packed s w h =
     let o = sound-opened s h in
     state-path s (map packed (map live (s .channels)))
     (map-back live packed (s .channels) no-channel
-    (λ i k. packed-live (getD (s .channels) i no-channel) (o .fitting i) (w .entries i (omega (arith, w .channels))) (o .zeros i)))
+    (λ i k. sym (packed-live (getD (s .channels) i no-channel) (w .entries i (omega (arith, w .channels))) (o .fitting i) (o .zeros i))))
 
 net-path : (n : Net) (l : List (List Entry)) → l ≡ n .chans → _≡_ {A = Net} (record { table = n .table; chans = l; begins = n .begins }) n
 net-path n l p = λ i. record { table = n .table; chans = p i; begins = n .begins }
@@ -141,11 +92,6 @@ module _ (n : Net) (k : keeps-the-rules n ≡ true) where
       all-map packed (λ (c : Channel). leb (c .count) channel-places) (n .chans)
       ∙ cell-all (λ (l : List Entry). leb (length l) channel-places) (n .chans) [] (λ j. le-leb (length (waiting n (chan j))) channel-places (within-its-places n (rules n k) (chan j)))
 
-  zero-behind : (l : List Entry) → all is-zero-entry (drop (length l) (l ++ replicate (channel-places - length l) zero-entry)) ≡ true
-  unfolding is-zero-entry
-  zero-behind l =
-      ap (all is-zero-entry) (drop-append-seam l (replicate (channel-places - length l) zero-entry)) ∙ filled-all is-zero-entry zero-entry refl (channel-places - length l)
-
   pub sound-pack : ((a : Agent) → has-agent (n .table) a ≡ false → begun n a ≡ 0) → sound (pack n) ≡ true
   unfolding sound unused-are-zero pack
   sound-pack absent =
@@ -157,7 +103,7 @@ module _ (n : Net) (k : keeps-the-rules n ≡ true) where
       (true-and (counts-fit (pack n)) (keeps-the-rules (view (pack n))) packed-counts (ap keeps-the-rules (view-pack n) ∙ k))
       (true-and (all zeros q && all-from 0 in-table q) (all-from 0 has-count (n .begins))
       (true-and (all zeros q) (all-from 0 in-table q)
-      (all-map packed zeros (n .chans) ∙ cell-all (λ (l : List Entry). zeros (packed l)) (n .chans) [] (λ j. zero-behind (waiting n (chan j))))
+      (all-map packed zeros (n .chans) ∙ cell-all (λ (l : List Entry). zeros (packed l)) (n .chans) [] (λ j. unused-of-packed (waiting n (chan j)) (within-its-places n (rules n k) (chan j))))
       (from-map packed in-table 0 (n .chans)
       ∙ cell-from (λ i (l : List Entry). in-table i (packed l)) (n .chans) []
       (λ j. zero-or-within j (length (waiting n (chan j))) (chan-count (n .table)) (λ f. ap length (beyond-is-empty n (rules n k) (chan j) f)))))
