@@ -10,3 +10,4 @@ pub mod SoundStays
 pub mod FirstBegins
 pub mod RefusedExactly
 pub mod NumberZero
+pub mod Reading

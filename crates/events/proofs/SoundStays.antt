@@ -7,6 +7,7 @@ use mathlib.Core.Option.{Option, none, some}
 use mathlib.Core.List.{List, [], _∷_}
 use borrow.Author.Tests.{eq-eqb}
 use lib.ListN.{length}
+use Rattle.base.proofs.Logic.{split}
 use Rattle.base.specs.Grounds.{refusal}
 use Rattle.network.specs.declared.State.{State}
 use Rattle.network.specs.Nets.{Net, view, pack}
@@ -21,7 +22,7 @@ use Rattle.events.specs.declared.Outcome.{Outcome}
 use Rattle.events.specs.Records.{decoded}
 use Rattle.events.specs.Grounds.{grounds, Accepted}
 use Rattle.events.specs.Effects.{effects, after}
-use Rattle.events.specs.Steps.{unless, inner-step, record-step, step-grounds, step}
+use Rattle.events.specs.Steps.{unless, inner-step, step-on, record-step, step-grounds, step}
 use Rattle.events.specs.Reached.{Reached, at-first, and-then}
 use Rattle.events.proofs.Kept.{rules-stay}
 
@@ -104,3 +105,8 @@ module _ (s : State) (w : Shaped s) (h : sound s ≡ true) where
 pub step-is : (s : State) (b : List ℕ) → sound s ≡ true → length b ≡ 8 → step s b ≡ record-step s (decoded b)
 unfolding step step-grounds
 step-is s b h l = rw (h, eq-eqb (length b) 8 l)
+
+-- in any state, eight bytes that are an event are that event's step
+pub step-on-record : (s : State) (b : List ℕ) (e : Event) → length b ≡ 8 → decoded b ≡ Known e → step s b ≡ step-on s e
+unfolding step step-on step-grounds
+step-on-record s b e l d = split (sound s) (λ h. rw (h, eq-eqb (length b) 8 l, d)) (λ h. rw h)

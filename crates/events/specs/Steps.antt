@@ -48,6 +48,10 @@ inner-step s e =
     unless (refusal (grounds (view s) e)) s
     (record { answer = Accepted (value (view s) e); state = pack (after (view s) e) })
 
+-- the same in any state: 16 first
+unfoldable pub step-on : State → Event → Outcome
+step-on s e = unless (refusal (16 when not (sound s) ∷ [])) s (inner-step s e)
+
 abbrev pub record-step : State → Decoded → Outcome
 record-step s Unfit = record { answer = Refused 1; state = s }
 record-step s (Known e) = inner-step s e

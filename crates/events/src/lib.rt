@@ -1,5 +1,6 @@
 // One step: an event is one of nine kinds, each with its own fields.
 pub mod accounts;
+pub mod reads;
 pub mod records;
 
 use chassis::Agent;
@@ -73,6 +74,12 @@ pub struct Step {
 pub enum Decoded {
     Known(Event),
     Unfit,
+}
+
+// A record as a block holds it: an event in its step record, or, of a record that is none, what its line needs.
+pub enum Read {
+    Known(Step),
+    Unfit { block: u16, place: u8, kind: u8 },
 }
 
 // What a single step answers; the state stands beside it.

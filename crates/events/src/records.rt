@@ -136,7 +136,7 @@ pub fn decode(b: &[u8]) -> Decoded
 }
 
 // Record i of the record bytes: "eight bytes each".
-pub fn decode_at(r: &[u8], i: usize) -> Decoded
+pub fn record_at(r: &[u8], i: usize) -> Decoded
     requires { ⌜ 8 * i + 8 ≤ length (now r) ⌝ }
     ensures { λ d. ⌜ d ≡ decoded (take 8 (drop (8 * i) (now (r .entry)))) ⌝ }
 {

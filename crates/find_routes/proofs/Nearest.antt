@@ -1,13 +1,14 @@
--- The first place of a way, found by recursion on the bridges left: where bridge k is crossed, the first place is that of
+-- The first place of a way, found bridge by bridge from the last: where bridge k is crossed, the first place is that of
 -- the way to its near end, or bridge k itself where that end is here.
-use Prim.Native.Nat.{ℕ, zero, suc, _-_, _<_}
+use Prim.Native.Nat.{ℕ, zero, suc, _-_, _<_, _≤_}
 use mathlib.Core.Path.{_≡_, refl, ap, sym, subst, _∙_}
-use mathlib.Core.Bool.{Bool, true, false}
+use mathlib.Core.Bool.{Bool, true, false, cond}
 use mathlib.Core.List.{List, [], _∷_, _++_}
 use native.Mathlib.Omega.{arith}
 use Rattle.chassis.specs.declared.Bus.{Bus}
 use Rattle.chassis.specs.declared.Table.{Table}
-use Rattle.chassis.specs.declared.NextPlace.the-variants.{Through}
+use Rattle.chassis.specs.declared.NextPlace.{NextPlace}
+use Rattle.chassis.specs.declared.NextPlace.the-variants.{Target, Through}
 use Rattle.chassis.specs.Numbers.{same-bus}
 use Rattle.chassis.specs.Channels.{first-bus, second-bus}
 use Rattle.chassis.specs.Ways.{Hop, hop, from, to, Way}
@@ -19,6 +20,10 @@ use Rattle.chassis.proofs.Trees.{way-right}
 use Rattle.check_tables.proofs.Levels.{first-low, second-low, shares}
 
 module _ (T : Table) where
+  pub near-is : (g : ℕ) (d : Bool) → cond d (first-bus T g) (second-bus T g) ≡ from T (hop g d)
+  near-is g true = refl
+  near-is g false = refl
+
   pub way-none : (k : ℕ) (a : Bus) → way-over T k a a ≡ []
   unfolding way-over
   way-none zero a = refl
@@ -31,18 +36,18 @@ module _ (T : Table) where
   before (u ∷ us) vs n = refl
 
   module _ (k : ℕ) (a c : Bus) (h : Hop) (hops : List Hop) where
-    place-here : a ≡ c → Through (channel-of T h) ≡ first-place T (way-over T k a c ++ (h ∷ hops))
+    pub place-here : a ≡ c → Through (channel-of T h) ≡ first-place T (way-over T k a c ++ (h ∷ hops))
     place-here p =
         subst (λ (x : Bus). Through (channel-of T h) ≡ first-place T (way-over T k a x ++ (h ∷ hops))) p (rw (way-none k a))
 
-    place-before : component T k a ≡ component T k c → (a ≡ c → ⊥) → first-place T (way-over T k a c) ≡ first-place T (way-over T k a c ++ (h ∷ hops))
+    pub place-before : component T k a ≡ component T k c → (a ≡ c → ⊥) → first-place T (way-over T k a c) ≡ first-place T (way-over T k a c ++ (h ∷ hops))
     place-before e n =
         before (way-over T k a c) (h ∷ hops) (λ p. n (subst (Way T k a c) p (way-right T k a c e)))
 
   -- ---- over bridge k, from the end that is joined to a
 
   module _ (k : ℕ) (a b : Bus) (apart : same-bus (component T k a) (component T k b) ≡ false) where
-    over : (d : Bool) → d ≡ same-bus (component T k a) (component T k (first-bus T k)) → way-over T (suc k) a b ≡ way-over T k a (from T (hop k d)) ++ (hop k d ∷ way-over T k (to T (hop k d)) b)
+    pub over : (d : Bool) → d ≡ same-bus (component T k a) (component T k (first-bus T k)) → way-over T (suc k) a b ≡ way-over T k a (from T (hop k d)) ++ (hop k d ∷ way-over T k (to T (hop k d)) b)
     unfolding way-over
     over true s = rw (apart, sym s)
     over false s = rw (apart, sym s)
@@ -58,59 +63,73 @@ module _ (T : Table) where
 
 -- ---- as the code has it: k bridges are left, by labels
 
-module _ (T : Table) (ok : InRange T) (l : List ℕ) (e : l ≡ ladder-of T) (k : ℕ) (a b : Bus) (r : Reachable T k a b) (n : k ≡ 0 → ⊥) where
-  one-more : k ≡ suc (k - 1)
-  one-more = omega arith
+-- the first place towards b over the bridges left is the one asked for
+pub record Toward (T : Table) (a : Bus) (asked : NextPlace) (k : ℕ) (b : Bus) : Type 0 where
+  pub reach : Reachable T k a b
+  pub place : first-place T (way-over T k a b) ≡ asked
 
-  bridge : k - 1 < T .bridges
-  bridge = omega (arith, r .few)
+module _ (T : Table) (ok : InRange T) (l : List ℕ) (e : l ≡ ladder-of T) {a : Bus} {asked : NextPlace} where
+  pub none-left : {k : ℕ} {b : Bus} → k ≤ 0 → Toward T a asked k b → Target ≡ asked
+  unfolding way-over
+  none-left {k} {b} h w = let z : k ≡ 0 = omega arith in subst (λ (m : ℕ). first-place T (way-over T m a b) ≡ asked) z (w .place)
 
-  way-over-last : way-over T k a b ≡ way-over T (suc (k - 1)) a b
-  way-over-last = ap (λ (m : ℕ). way-over T m a b) one-more
+  module _ {k : ℕ} {b : Bus} (w : Toward T a asked k b) (n : 0 < k) where
+    one-more : k ≡ suc (k - 1)
+    one-more = omega arith
 
-  said : (c : Bus) → c .0 < 16 → share-label l (k - 1) a c ≡ same-bus (component T (k - 1) a) (component T (k - 1) c)
-  said c h = shares T ok l (k - 1) a c e (omega (arith, bridge)) (r .start) h
+    bridge : k - 1 < T .bridges
+    bridge = omega (arith, w .reach .few)
 
-  module _ (s : share-label l (k - 1) a b ≡ true) where
-    pub reach-below : Reachable T (k - 1) a b
-    reach-below = record {
-      few = omega (arith, bridge);
-      start = r .start;
-      goal = r .goal;
-      joined = same-yes (component T (k - 1) a) (component T (k - 1) b) (sym (said b (r .goal)) ∙ s);
-    }
+    way-over-last : way-over T k a b ≡ way-over T (suc (k - 1)) a b
+    way-over-last = ap (λ (m : ℕ). way-over T m a b) one-more
 
-    pub place-below : first-place T (way-over T (k - 1) a b) ≡ first-place T (way-over T k a b)
+    said : (c : Bus) → c .0 < 16 → share-label l (k - 1) a c ≡ same-bus (component T (k - 1) a) (component T (k - 1) c)
+    said c h = shares T ok l (k - 1) a c e (omega (arith, bridge)) (w .reach .start) h
+
+    -- the two are joined without the last bridge
+    pub go-below : share-label l (k - 1) a b ≡ true → Toward T a asked (k - 1) b
     unfolding way-over
-    place-below =
-        let q : way-over T (suc (k - 1)) a b ≡ way-over T (k - 1) a b = rw (sym (said b (r .goal)) ∙ s) in
-        ap (first-place T) (sym (way-over-last ∙ q))
+    go-below s =
+        let t : same-bus (component T (k - 1) a) (component T (k - 1) b) ≡ true = sym (said b (w .reach .goal)) ∙ s in
+        let q : way-over T (suc (k - 1)) a b ≡ way-over T (k - 1) a b = rw t in record {
+          reach = record {
+            few = omega (arith, bridge);
+            start = w .reach .start;
+            goal = w .reach .goal;
+            joined = same-yes (component T (k - 1) a) (component T (k - 1) b) t;
+          };
+          place = ap (first-place T) (sym (way-over-last ∙ q)) ∙ w .place;
+        }
 
-  module _ (s : share-label l (k - 1) a b ≡ false) (d : Bool) (f : d ≡ share-label l (k - 1) a (first-bus T (k - 1))) where
-    apart : same-bus (component T (k - 1) a) (component T (k - 1) b) ≡ false
-    apart = sym (said b (r .goal)) ∙ s
+    -- the last bridge parts them
+    module _ (s : share-label l (k - 1) a b ≡ false) (d : Bool) (f : d ≡ share-label l (k - 1) a (first-bus T (k - 1))) where
+      apart : same-bus (component T (k - 1) a) (component T (k - 1) b) ≡ false
+      apart = sym (said b (w .reach .goal)) ∙ s
 
-    side : d ≡ same-bus (component T (k - 1) a) (component T (k - 1) (first-bus T (k - 1)))
-    side = f ∙ said (first-bus T (k - 1)) (first-low T ok (k - 1) bridge)
+      side : d ≡ same-bus (component T (k - 1) a) (component T (k - 1) (first-bus T (k - 1)))
+      side = f ∙ said (first-bus T (k - 1)) (first-low T ok (k - 1) bridge)
 
-    near-low : (d : Bool) → from T (hop (k - 1) d) .0 < 16
-    near-low true = first-low T ok (k - 1) bridge
-    near-low false = second-low T ok (k - 1) bridge
+      near-low : (d : Bool) → from T (hop (k - 1) d) .0 < 16
+      near-low true = first-low T ok (k - 1) bridge
+      near-low false = second-low T ok (k - 1) bridge
 
-    pub reach-near : Reachable T (k - 1) a (from T (hop (k - 1) d))
-    reach-near = record {
-      few = omega (arith, bridge);
-      start = r .start;
-      goal = near-low d;
-      joined = near T (k - 1) a b apart d side (subst (λ (m : ℕ). component T m a ≡ component T m b) one-more (r .joined));
-    }
+      near-reach : Reachable T (k - 1) a (from T (hop (k - 1) d))
+      near-reach = record {
+        few = omega (arith, bridge);
+        start = w .reach .start;
+        goal = near-low d;
+        joined = near T (k - 1) a b apart d side (subst (λ (m : ℕ). component T m a ≡ component T m b) one-more (w .reach .joined));
+      }
 
-    pub place-through : a .0 ≡ from T (hop (k - 1) d) .0 → Through (channel-of T (hop (k - 1) d)) ≡ first-place T (way-over T k a b)
-    place-through p =
-        place-here T (k - 1) a (from T (hop (k - 1) d)) (hop (k - 1) d) (way-over T (k - 1) (to T (hop (k - 1) d)) b) (bus-path p)
-        ∙ ap (first-place T) (sym (way-over-last ∙ over T (k - 1) a b apart d side))
+      over-last : first-place T (way-over T (k - 1) a (from T (hop (k - 1) d)) ++ (hop (k - 1) d ∷ way-over T (k - 1) (to T (hop (k - 1) d)) b)) ≡ asked
+      over-last = ap (first-place T) (sym (way-over-last ∙ over T (k - 1) a b apart d side)) ∙ w .place
 
-    pub place-near : (a .0 ≡ from T (hop (k - 1) d) .0 → ⊥) → first-place T (way-over T (k - 1) a (from T (hop (k - 1) d))) ≡ first-place T (way-over T k a b)
-    place-near p =
-        place-before T (k - 1) a (from T (hop (k - 1) d)) (hop (k - 1) d) (way-over T (k - 1) (to T (hop (k - 1) d)) b) (reach-near .joined) (λ q. p (ap (λ (c : Bus). c .0) q))
-        ∙ ap (first-place T) (sym (way-over-last ∙ over T (k - 1) a b apart d side))
+      pub go-through : a .0 ≡ from T (hop (k - 1) d) .0 → Through (channel-of T (hop (k - 1) d)) ≡ asked
+      go-through p =
+          place-here T (k - 1) a (from T (hop (k - 1) d)) (hop (k - 1) d) (way-over T (k - 1) (to T (hop (k - 1) d)) b) (bus-path p) ∙ over-last
+
+      pub go-near : (a .0 ≡ from T (hop (k - 1) d) .0 → ⊥) → Toward T a asked (k - 1) (from T (hop (k - 1) d))
+      go-near p = record {
+        reach = near-reach;
+        place = place-before T (k - 1) a (from T (hop (k - 1) d)) (hop (k - 1) d) (way-over T (k - 1) (to T (hop (k - 1) d)) b) (near-reach .joined) (λ q. p (ap (λ (c : Bus). c .0) q)) ∙ over-last;
+      }

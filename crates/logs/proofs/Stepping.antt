@@ -5,7 +5,7 @@ use mathlib.Core.List.{List, [], _∷_, _++_, map}
 use native.Mathlib.Numerals.{add-one}
 use native.Mathlib.Omega.{arith}
 use lib.ListN.{length, getD, take, drop, length-take, length-drop, length-map, List·getD-append}
-use lib.Seq.{drop-drop, getD-take, getD-drop}
+use lib.Seq.{drop-drop}
 use Rattle.base.specs.Lists.{parts}
 use Rattle.network.specs.declared.State.{State}
 use Rattle.base.proofs.Writing.{length-parts}
@@ -15,6 +15,7 @@ use Rattle.events.specs.Records.{decoded, records}
 use Rattle.events.specs.Steps.{step, record-step, refusal-number, answer-value}
 use Rattle.play_events.specs.Plays.{played-state, played-refusals, played-values}
 use Rattle.events.proofs.SoundStays.{Right, record-step-right, step-is}
+use Rattle.events.proofs.Reading.{first-byte}
 use Rattle.blocks.specs.Blocks.{byte, record-count, record-bytes, block-records}
 use Rattle.blocks.proofs.Accepted.{length-record-bytes}
 use Rattle.lines.specs.Lines.{e, text, texts}
@@ -37,16 +38,10 @@ module _ (block : ℕ) (r fs vs : List ℕ) (n i : ℕ) where
 -- ---- what the definition prints
 
 -- the next eight bytes
-drop-eight : (i : ℕ) (r : List ℕ) → drop 8 (drop (8 * i) r) ≡ drop (8 * suc i) r
+pub drop-eight : (i : ℕ) (r : List ℕ) → drop 8 (drop (8 * i) r) ≡ drop (8 * suc i) r
 drop-eight i r =
     let e : 8 * i + 8 ≡ 8 * suc i = omega arith in
     drop-drop 8 (8 * i) r ∙ ap (λ (n : ℕ). drop n r) e
-
-first-byte : (i : ℕ) (r : List ℕ) → byte (take 8 (drop (8 * i) r)) 0 ≡ byte r (8 * i)
-first-byte i r =
-    let h : 0 < 8 = omega arith in
-    let e : 8 * i + 0 ≡ 8 * i = omega arith in
-    getD-take 8 (drop (8 * i) r) 0 0 h ∙ getD-drop (8 * i) r 0 0 ∙ ap (λ (n : ℕ). getD r n 0) e
 
 -- numbers that a list holds from place i on
 abbrev Holds : List ℕ → ℕ → ℕ → List ℕ → Type 0

@@ -51,7 +51,7 @@ pub fn empty(t: Table) -> State
     }
 }
 
-fn zero_table() -> Table
+pub fn zero_table() -> Table
     ensures { λ r. ⌜ r ≡ zero-table ⌝ }
 {
     let g = Bridge {

@@ -1,6 +1,7 @@
 // Room in a channel: each kind has its own. The table's limits are read here.
 ghost use mathlib.Core.Path.{_≡_};
 ghost use Prim.Native.Nat.{_≤_};
+ghost use lib.Dec.{leb};
 ghost use Rattle.chassis.specs.Channels.{limit};
 ghost use Rattle.queue.specs.Entries.{P, C};
 ghost use Rattle.queue.specs.Packing.{live};
@@ -14,6 +15,14 @@ fn limit(t: Table, kind: u8) -> usize
 {
     let i = kind as usize - 1;
     t.limits[i] as usize
+}
+
+// So many of the kind are its limit, or more.
+pub fn at_limit(t: Table, kind: u8, filled: usize) -> bool
+    requires { ⌜ (P ≤ kind) × (kind ≤ C) ⌝ }
+    ensures { λ r. ⌜ r ≡ leb (limit t kind) filled ⌝ }
+{
+    limit(t, kind) <= filled
 }
 
 // The kind is at its limit, so that one more has no room.

@@ -8,7 +8,7 @@ ghost use lib.Dec.{ltb, eqb};
 ghost use Rattle.base.specs.Lists.{all, all-from};
 ghost use Rattle.chassis.specs.Channels.{has-agent, chan-count};
 ghost use Rattle.chassis.specs.Tables.{table-passes, within};
-ghost use Rattle.check_tables.specs.Ladders.{ladder-of};
+ghost use Rattle.find_routes.specs.Hops.{hops-of};
 ghost use Rattle.queue.specs.Entries.{P, R, C, is-kind};
 ghost use Rattle.queue.specs.Packing.{live, channel-places};
 ghost use Rattle.network.specs.Soundness.{within-limits, stands-right, fit, sound};
@@ -24,8 +24,8 @@ use chassis::Table;
 use chassis::TableAnswer;
 use chassis::channels::has_agent;
 use chassis::channels::has_chan;
-use check_tables::labels::ladder;
 use check_tables::tables::table_answer;
+use find_routes::hops::hops;
 use find_routes::routes::on_the_way;
 use find_routes::routes::opposes_the_way;
 use queue::C;
@@ -87,7 +87,7 @@ fn is_begun(begins: [u16; MOST_AGENTS], x: Entry) -> bool
 
 // "P and R stand only on the way from master to target; C stands only in the opposite of a bridge channel on that way."
 fn stands_right(t: Table, ways: &[u8; 256], n: Chan, x: Entry) -> bool
-    requires { ⌜ (table-passes t ≡ true) × (has-agent t (x .transaction .master) ≡ true) × (has-agent t (x .target) ≡ true) × (n .0 < 255) × (now ways ≡ ladder-of t) ⌝ }
+    requires { ⌜ (table-passes t ≡ true) × (has-agent t (x .transaction .master) ≡ true) × (has-agent t (x .target) ≡ true) × (n .0 < 255) × (now ways ≡ hops-of t) ⌝ }
     ensures { λ r. ⌜ r ≡ stands-right t n x ⌝ }
 {
     if x.kind == C {
@@ -98,7 +98,7 @@ fn stands_right(t: Table, ways: &[u8; 256], n: Chan, x: Entry) -> bool
 
 // The routes are asked last but one: by then the table is known to have both agents.
 fn fits(t: Table, ways: &[u8; 256], begins: [u16; MOST_AGENTS], n: Chan, x: Entry) -> bool
-    requires { ⌜ (table-passes t ≡ true) × (n .0 < 255) × (now ways ≡ ladder-of t) ⌝ }
+    requires { ⌜ (table-passes t ≡ true) × (n .0 < 255) × (now ways ≡ hops-of t) ⌝ }
     ensures { λ r. ⌜ r ≡ fit (counting t begins) n x ⌝ }
 {
     if !is_known(x) {
@@ -126,7 +126,7 @@ fn fits(t: Table, ways: &[u8; 256], begins: [u16; MOST_AGENTS], n: Chan, x: Entr
 }
 
 fn entries_fit(t: Table, ways: &[u8; 256], begins: [u16; MOST_AGENTS], n: Chan, c: Channel) -> bool
-    requires { ⌜ (table-passes t ≡ true) × (n .0 < 255) × (c .count ≤ channel-places) × (now ways ≡ ladder-of t) ⌝ }
+    requires { ⌜ (table-passes t ≡ true) × (n .0 < 255) × (c .count ≤ channel-places) × (now ways ≡ hops-of t) ⌝ }
     ensures { λ r. ⌜ r ≡ all (fit (counting t begins) n) (live c) ⌝ }
 {
     let count = c.count;
@@ -164,14 +164,14 @@ fn there_or_empty(t: Table, n: Chan, c: Channel) -> bool
 }
 
 // The count is asked first: the walks over the entries trust it.
-fn is_sound_channel(
+pub fn is_sound_channel(
     t: Table,
     ways: &[u8; 256],
     begins: [u16; MOST_AGENTS],
     n: Chan,
     c: Channel,
 ) -> bool
-    requires { ⌜ (table-passes t ≡ true) × (n .0 < 255) × (now ways ≡ ladder-of t) ⌝ }
+    requires { ⌜ (table-passes t ≡ true) × (n .0 < 255) × (now ways ≡ hops-of t) ⌝ }
     ensures { λ r. ⌜ r ≡ sound-channel t begins (n .0) c ⌝ }
 {
     if c.count > CHANNEL_PLACES {
@@ -198,7 +198,7 @@ fn is_sound_count(t: Table, a: Agent, n: u16) -> bool
     n == 0
 }
 
-fn are_sound_counts(t: Table, begins: [u16; MOST_AGENTS]) -> bool
+pub fn are_sound_counts(t: Table, begins: [u16; MOST_AGENTS]) -> bool
     ensures { λ r. ⌜ r ≡ all-from 0 (sound-count t) begins ⌝ }
 {
     let mut a: u8 = 0;
@@ -212,7 +212,7 @@ fn are_sound_counts(t: Table, begins: [u16; MOST_AGENTS]) -> bool
     true
 }
 
-// The table is asked first, so that routes are asked only on a table that passes; its ladder is made once for all entries.
+// The table is asked first, so that routes are asked only on a table that passes; its hop table is made once for all entries.
 pub fn is_sound(s: State) -> bool
     ensures { λ r. ⌜ r ≡ sound s ⌝ }
 {
@@ -221,7 +221,7 @@ pub fn is_sound(s: State) -> bool
     if let TableAnswer::Refused(number) = checked {
         return false;
     }
-    let ways = ladder(t);
+    let ways = hops(t);
     let begins = s.begins;
     let mut n: u8 = 0;
     while n < MOST_CHANNELS_U8 {

@@ -1,8 +1,8 @@
 // Records played on a state. One function holds the state and stores into it; judges see what was read off its channels.
 use crate::notices::noticed;
 use crate::notices::told;
-use check_tables::labels::ladder;
-use events::records::decode_at;
+use events::records::record_at;
+use find_routes::hops::hops;
 use network::State;
 use read_events::frames::record_frame;
 ghost use mathlib.Core.Path.{_≡_};
@@ -31,12 +31,12 @@ pub fn play(s: State, r: &[u8], refusals: &mut [u8], values: &mut [u16]) -> Stat
     ensures { λ q. ⌜ now (refusals .exit) ≡ played-refusals s (records (now (r .entry))) ++ drop (length (now (r .entry)) / 8) (now (refusals .entry)) ⌝ }
     ensures { λ q. ⌜ now (values .exit) ≡ played-values s (records (now (r .entry))) ++ drop (length (now (r .entry)) / 8) (now (values .entry)) ⌝ }
 {
-    let ways = ladder(s.table);
+    let ways = hops(s.table);
     let mut state = s;
     let many = r.len() / 8;
     let mut i: usize = 0;
     while i < many {
-        let d = decode_at(r, i);
+        let d = record_at(r, i);
         let t = state.table;
         let f = record_frame(t, d);
         let place = f.at.0 as usize;

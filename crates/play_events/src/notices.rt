@@ -20,7 +20,7 @@ ghost use mathlib.Core.Bool.{true};
 ghost use Prim.Native.Nat.{_<_};
 ghost use Rattle.chassis.specs.Channels.{has-chan};
 ghost use Rattle.chassis.specs.Tables.{table-passes};
-ghost use Rattle.check_tables.specs.Ladders.{ladder-of};
+ghost use Rattle.find_routes.specs.Hops.{hops-of};
 ghost use Rattle.queue.specs.Packing.{live};
 ghost use Rattle.events.specs.Accounts.{account};
 ghost use Rattle.read_events.specs.Sights.{small};
@@ -28,8 +28,8 @@ ghost use Rattle.read_events.specs.Sights.{next-told};
 ghost use Rattle.play_events.specs.Notices.{look-told, Aimed, notice, told-plan};
 
 // The next place, where the kind asks for it and the entry is there.
-fn next_of(t: Table, ways: &[u8; 256], e: Event, n: Chan, l: Look) -> NextPlace
-    requires { ⌜ (table-passes t ≡ true) × (has-chan t n ≡ true) × Aimed t l × (now ways ≡ ladder-of t) ⌝ }
+pub fn next_of(t: Table, ways: &[u8; 256], e: Event, n: Chan, l: Look) -> NextPlace
+    requires { ⌜ (table-passes t ≡ true) × (has-chan t n ≡ true) × Aimed t l × (now ways ≡ hops-of t) ⌝ }
     ensures { λ r. ⌜ r ≡ next-told t e n l ⌝ }
 {
     let a = e.account();
@@ -43,9 +43,9 @@ fn next_of(t: Table, ways: &[u8; 256], e: Event, n: Chan, l: Look) -> NextPlace
     next_by(t, ways, n, x.target)
 }
 
-// The table's ladder is lent: whoever holds the state makes it once, since no step changes the table.
+// The hop table is lent: whoever holds the state makes it once, since no step changes the table.
 pub fn noticed(t: Table, ways: &[u8; 256], f: Frame, here: Channel) -> Notice
-    requires { ⌜ (table-passes t ≡ true) × (has-chan t (f .at) ≡ true) × Aimed t (look-told f (live here)) × (now ways ≡ ladder-of t) ⌝ }
+    requires { ⌜ (table-passes t ≡ true) × (has-chan t (f .at) ≡ true) × Aimed t (look-told f (live here)) × (now ways ≡ hops-of t) ⌝ }
     ensures { λ r. ⌜ r ≡ notice t f (live here) ⌝ }
 {
     let e = f.event;

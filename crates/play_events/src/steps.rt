@@ -1,13 +1,13 @@
 // One step on its own: on record bytes, where 16 and 18 are asked first and the record is played as the only one; and on a step
-// record, for whoever holds a sound state.
+// record, where 16 is asked first, or not, for whoever holds a sound state.
 use crate::in_turn::play;
 use crate::in_turn::raised;
 use crate::notices::noticed;
 use crate::notices::told;
-use check_tables::labels::ladder;
 use events::Answer;
 use events::Outcome;
 use events::Step;
+use find_routes::hops::hops;
 use network::State;
 use network::soundness::is_sound;
 use read_events::frames::event_frame;
@@ -15,7 +15,7 @@ ghost use mathlib.Core.Path.{_≡_};
 ghost use mathlib.Core.Bool.{true};
 ghost use Rattle.network.specs.Soundness.{sound};
 ghost use Rattle.events.specs.declared.Answer.the-variants.{Refused};
-ghost use Rattle.events.specs.Steps.{answer-of, inner-step, step};
+ghost use Rattle.events.specs.Steps.{answer-of, inner-step, step-on, step};
 
 // 0 is no ground's number.
 fn answer_of(refusal: u8, value: u16) -> Answer
@@ -62,7 +62,7 @@ pub fn inner_step(s: State, x: Step) -> Outcome
     ensures { λ r. ⌜ r ≡ inner-step s (x .event) ⌝ }
 {
     let t = s.table;
-    let ways = ladder(t);
+    let ways = hops(t);
     let e = x.event;
     let f = event_frame(t, e);
     let place = f.at.0 as usize;
@@ -91,4 +91,14 @@ pub fn inner_step(s: State, x: Step) -> Outcome
         answer: Answer::Accepted(p.value),
         state: state,
     }
+}
+
+// The same in any state.
+pub fn step_on(s: State, x: Step) -> Outcome
+    ensures { λ r. ⌜ r ≡ step-on s (x .event) ⌝ }
+{
+    if !is_sound(s) {
+        return refused(s, 16);
+    }
+    inner_step(s, x)
 }

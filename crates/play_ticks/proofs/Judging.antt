@@ -8,7 +8,7 @@ use mathlib.Core.Option.{Option, none, some}
 use native.Mathlib.Omega.{arith}
 use native.Mathlib.Numerals.{add-one}
 use borrow.Author.Tests.{not-false}
-use lib.ListN.{length, take, drop, set, replicate, length-set, length-take, length-replicate, take-append-drop, drop-of-length-le}
+use lib.ListN.{length, take, drop, set, length-set, length-take, take-append-drop, drop-of-length-le}
 use lib.Seq.{drop-set-lt, drop-drop}
 use Rattle.base.specs.Grounds.{refusal}
 use Rattle.base.proofs.Grounds.{clear}
@@ -53,7 +53,7 @@ use Rattle.ticks.proofs.Searches.{known-all, each-known}
 use Rattle.compare_events.specs.declared.Foot.{Foot}
 use Rattle.play_ticks.specs.declared.Turn.{Turn}
 use Rattle.compare_events.specs.Feet.{foot, footing-of}
-use Rattle.play_ticks.specs.Turns.{no-turn, turn, turns-made, in-places, answer-by, clash-pair, footings, refused-or, judged-answer}
+use Rattle.play_ticks.specs.Turns.{turn, turns-made, laid-over, answer-by, clash-pair, footings, refused-or, judged-answer}
 use Rattle.compare_events.proofs.Standing.{foot-stands}
 use Rattle.play_ticks.proofs.Pairing.{pair-of}
 
@@ -96,7 +96,7 @@ all-made s (d ∷ ds) a = let n = a .0 in rw (n, turns-made, all-made s ds (a .1
 
 -- ---- the loop
 
-module _ (s : Net) (r : List ℕ) (many : ℕ) where
+module _ (s : Net) (r : List ℕ) (many : ℕ) (before : List Turn) where
   abbrev ds : List Decoded
   ds = records r
 
@@ -107,22 +107,14 @@ module _ (s : Net) (r : List ℕ) (many : ℕ) where
     pub long : length all ≡ most-records
     pub clear : first-refused s i (drop i ds) ≡ first-refused s 0 ds
     pub made : turns-made s ds ≡ take i all ++ turns-made s (drop i ds)
-    pub left : drop i all ≡ drop i (replicate most-records no-turn)
+    pub left : drop i all ≡ drop i before
 
-  pub judge-first : (all : List Turn) → many ≡ length r / 8 → many ≤ most-records → all ≡ replicate most-records no-turn → Judging all 0
-  judge-first all h k e = record {
-    within = omega arith;
-    count = h;
-    few = k;
-    long = ap length e ∙ length-replicate most-records no-turn;
-    clear = refl;
-    made = refl;
-    left = e;
-  }
+  pub judge-first : many ≡ length r / 8 → many ≤ most-records → length before ≡ most-records → Judging before 0
+  judge-first h k l = record { within = omega arith; count = h; few = k; long = l; clear = refl; made = refl; left = refl }
 
   module _ (all : List Turn) (i : ℕ) (j : Judging all i) where
     -- where no turn is made of what is left, the places are as they shall be
-    pub in-their-places : turns-made s (drop i ds) ≡ [] → all ≡ in-places (turns-made s ds)
+    pub in-their-places : turns-made s (drop i ds) ≡ [] → all ≡ laid-over (turns-made s ds) before
     in-their-places h =
         let w = j .within in
         let f = j .few in
@@ -130,8 +122,8 @@ module _ (s : Net) (r : List ℕ) (many : ℕ) where
         let m : turns-made s ds ≡ take i all = j .made ∙ ap (take i all ++_) h ∙ append-nil (take i all) in
         let n : length (take i all) ≡ i = omega (arith, length-take i all) in
         sym (take-append-drop i all)
-        ∙ ap (take i all ++_) (j .left ∙ ap (λ (k : ℕ). drop k (replicate most-records no-turn)) (sym n))
-        ∙ sym (ap in-places m)
+        ∙ ap (take i all ++_) (j .left ∙ ap (λ (k : ℕ). drop k before) (sym n))
+        ∙ sym (ap (λ (l : List Turn). laid-over l before) m)
 
     module _ (more : i < many) (d : Decoded) (isd : d ≡ decoded (take 8 (drop (8 * i) r))) where
       left : drop i ds ≡ d ∷ drop (i + 1) ds
@@ -164,7 +156,7 @@ module _ (s : Net) (r : List ℕ) (many : ℕ) where
                 ∙ ap (λ (l : List Decoded). take i all ++ turns-made s l) left
                 ∙ ap (take i all ++_) (made-one n ∙ ap (λ (y : Turn). y ∷ turns-made s (drop (i + 1) ds)) (sym isx))
                 ∙ sym (filled-on all i x (turns-made s (drop (i + 1) ds)) (omega arith));
-            left = drop-set-lt (i + 1) all i x (omega arith) ∙ sym (drop-drop 1 i all) ∙ ap (drop 1) (j .left) ∙ drop-drop 1 i (replicate most-records no-turn);
+            left = drop-set-lt (i + 1) all i x (omega arith) ∙ sym (drop-drop 1 i all) ∙ ap (drop 1) (j .left) ∙ drop-drop 1 i before;
           }
 
       -- refused: it is the lowest, and no turn is made of it or behind it

@@ -4,7 +4,7 @@ use Prim.Native.Nat.{ℕ, suc, _+_, _<_, _≤_}
 use mathlib.Core.Path.{_≡_, refl, sym, ap, _∙_}
 use mathlib.Core.Bool.{Bool, true, false, cond}
 use mathlib.Core.List.{List, [], _∷_, map}
-use mathlib.Core.Option.{none, some}
+use mathlib.Core.Option.{Option, none, some}
 use native.Mathlib.Omega.{arith}
 use lib.ListN.{length, getD, take, drop, length-take}
 use native.Mathlib.Numerals.{add-one}
@@ -31,14 +31,12 @@ module _ (all : List Turn) (n : ℕ) where
     pub long : n ≤ length all
     pub same : clash-pair i (left i) ≡ clash-pair 0 (left 0)
 
-  -- and e, the one at place i, has none before place j
-  pub record Comparing (i : ℕ) (e : Foot) (j : ℕ) : Type 0 where
-    pub seeking : Seeking i
-    pub more : i < n
-    pub from : i + 1 ≤ j
+  -- e has no partner from place k to before place j
+  pub record Comparing (e : Foot) (k j : ℕ) : Type 0 where
+    pub from : k ≤ j
     pub to : j ≤ n
-    pub here : clash-pair i (left i) ≡ pair-or i (clash-partner (footing-of e) (i + 1) (left (i + 1))) (clash-pair (i + 1) (left (i + 1)))
-    pub same : clash-partner (footing-of e) j (left j) ≡ clash-partner (footing-of e) (i + 1) (left (i + 1))
+    pub long : n ≤ length all
+    pub same : clash-partner (footing-of e) j (left j) ≡ clash-partner (footing-of e) k (left k)
 
   pub seek-first : n ≤ length all → Seeking 0
   seek-first h = record { within = omega arith; long = h; same = refl }
@@ -46,55 +44,50 @@ module _ (all : List Turn) (n : ℕ) where
   one-less : (i : ℕ) (d : Turn) → i < n → n ≤ length all → left i ≡ footing-of (getD all i d .foot) ∷ left (i + 1)
   one-less i d h k = ap footings (walk-on all n i d h (omega arith))
 
-  pub compare-first : (i : ℕ) (d : Turn) → Seeking i → i < n → Comparing i (getD all i d .foot) (i + 1)
-  unfolding clash-pair
-  compare-first i d s h = record {
-    seeking = s;
-    more = h;
-    from = omega arith;
-    to = omega arith;
-    here = ap (clash-pair i) (one-less i d h (s .long)) ∙ rw (sym (add-one i));
-    same = refl;
-  }
+  module _ (e : Foot) (k : ℕ) where
+    pub compare-first : k ≤ n → n ≤ length all → Comparing e k k
+    compare-first h l = record { from = omega arith; to = h; long = l; same = refl }
 
-  module _ (i : ℕ) (e : Foot) (j : ℕ) (c : Comparing i e j) where
-    module _ (d : Turn) (h : j < n) where
-      one-partner : (b : Bool) → clash (footing-of e) (footing-of (getD all j d .foot)) ≡ b
-          → clash-partner (footing-of e) j (left j) ≡ cond b (some j) (clash-partner (footing-of e) (j + 1) (left (j + 1)))
-      unfolding clash-partner
-      one-partner b k = ap (clash-partner (footing-of e) j) (one-less j d h (c .seeking .long)) ∙ rw (k, sym (add-one j))
+    module _ (j : ℕ) (c : Comparing e k j) where
+      module _ (d : Turn) (h : j < n) where
+        one-partner : (b : Bool) → clash (footing-of e) (footing-of (getD all j d .foot)) ≡ b
+            → clash-partner (footing-of e) j (left j) ≡ cond b (some j) (clash-partner (footing-of e) (j + 1) (left (j + 1)))
+        unfolding clash-partner
+        one-partner b x = ap (clash-partner (footing-of e) j) (one-less j d h (c .long)) ∙ rw (x, sym (add-one j))
 
-      pub compare-on : clash (footing-of e) (footing-of (getD all j d .foot)) ≡ false → Comparing i e (j + 1)
-      compare-on k = record {
-        seeking = c .seeking;
-        more = c .more;
-        from = let f = c .from in omega arith;
-        to = omega arith;
-        here = c .here;
-        same = sym (one-partner false k) ∙ c .same;
-      }
-
-      pub pair-found : clash (footing-of e) (footing-of (getD all j d .foot)) ≡ true → Conflict i j ≡ answer-by (clash-pair 0 (footings (take n all)))
-      pair-found k =
-          let p : clash-partner (footing-of e) (i + 1) (left (i + 1)) ≡ some j = sym (c .same) ∙ one-partner true k in
-          let q : clash-pair 0 (left 0) ≡ some (Conflict i j) = sym (c .seeking .same) ∙ c .here ∙ rw p in
-          sym (ap answer-by q)
-
-    no-partner : n ≤ j → clash-partner (footing-of e) (i + 1) (left (i + 1)) ≡ none
-    unfolding clash-partner
-    no-partner h =
-        let z : drop j (take n all) ≡ [] = walk-over all n j (simp length-take (omega arith)) in
-        sym (c .same) ∙ ap (λ (l : List Turn). clash-partner (footing-of e) j (footings l)) z
-
-    pub seek-on : n ≤ j → Seeking (i + 1)
-    seek-on h =
-        let p = no-partner h in
-        let m = c .more in
-        record {
-          within = omega arith;
-          long = c .seeking .long;
-          same = sym (c .here ∙ rw p) ∙ c .seeking .same;
+        pub compare-on : clash (footing-of e) (footing-of (getD all j d .foot)) ≡ false → Comparing e k (j + 1)
+        compare-on x = record {
+          from = let f = c .from in omega arith;
+          to = omega arith;
+          long = c .long;
+          same = sym (one-partner false x) ∙ c .same;
         }
+
+        pub partner-found : clash (footing-of e) (footing-of (getD all j d .foot)) ≡ true → clash-partner (footing-of e) k (left k) ≡ some j
+        partner-found x = sym (c .same) ∙ one-partner true x
+
+      pub no-partner : n ≤ j → clash-partner (footing-of e) k (left k) ≡ none
+      unfolding clash-partner
+      no-partner h =
+          let z : drop j (take n all) ≡ [] = walk-over all n j (simp length-take (omega arith)) in
+          sym (c .same) ∙ ap (λ (l : List Turn). clash-partner (footing-of e) j (footings l)) z
+
+  -- what the partner of the one at place i decides
+  module _ (i : ℕ) (d : Turn) (s : Seeking i) (h : i < n) where
+    abbrev its-partner : Option ℕ
+    its-partner = clash-partner (footing-of (getD all i d .foot)) (i + 1) (left (i + 1))
+
+    here : clash-pair i (left i) ≡ pair-or i its-partner (clash-pair (i + 1) (left (i + 1)))
+    unfolding clash-pair
+    here = ap (clash-pair i) (one-less i d h (s .long)) ∙ rw (sym (add-one i))
+
+    pub pair-found : (j : ℕ) → its-partner ≡ some j → Conflict i j ≡ answer-by (clash-pair 0 (footings (take n all)))
+    pair-found j p =
+        let q : clash-pair 0 (left 0) ≡ some (Conflict i j) = sym (s .same) ∙ here ∙ rw p in
+        sym (ap answer-by q)
+
+    pub seek-on : its-partner ≡ none → Seeking (i + 1)
+    seek-on p = record { within = omega arith; long = s .long; same = sym (here ∙ rw p) ∙ s .same }
 
   pub seek-done : (i : ℕ) → Seeking i → n ≤ i → Accepted ≡ answer-by (clash-pair 0 (footings (take n all)))
   unfolding clash-pair

@@ -4,10 +4,10 @@ use mathlib.Core.Path.{_≡_, refl, sym, ap, subst, _∙_}
 use mathlib.Core.Bool.{true, false}
 use mathlib.Core.List.{List, [], _∷_, _++_, map}
 use native.Mathlib.Omega.{arith}
-use lib.ListN.{length, getD, take, drop, replicate, length-map}
+use lib.ListN.{length, getD, take, drop, length-map}
 use lib.Seq.{getD-take, take-at}
 use Rattle.base.proofs.Logic.{split, there, true-false}
-use Rattle.chassis.specs.Capacities.{most-record-bytes, most-records}
+use Rattle.chassis.specs.Capacities.{most-record-bytes}
 use Rattle.find_routes.proofs.Places.{agent-low}
 use Rattle.network.specs.declared.State.{State}
 use Rattle.network.specs.Nets.{view, pack}
@@ -28,11 +28,11 @@ use Rattle.ticks.specs.declared.TickAnswer.{TickAnswer}
 use Rattle.ticks.specs.declared.TickAnswer.the-variants.{Accepted, Refused, Conflict}
 use Rattle.ticks.specs.Ticks.{known, end-of, first-refused, first-pair, Ticked, held, judged, tick}
 use Rattle.ticks.proofs.Searches.{known-all, refuses-none}
-use Rattle.ticks.proofs.Judged.{none-refused}
+use Rattle.ticks.proofs.Judged.{EachAlone, none-refused}
 use Rattle.ticks.proofs.TickGrounds.{no-tick-ground}
 use Rattle.ticks.proofs.TickAcceptsExactly.{Orderly, Ends, tick-accepts-exactly, tick-ends}
 use Rattle.play_ticks.specs.declared.Turn.{Turn}
-use Rattle.play_ticks.specs.Turns.{no-turn, turn, turns-made, in-places, is-accepted, judged-answer, Placed, all-turned, turn-values}
+use Rattle.play_ticks.specs.Turns.{no-turn, turn, turns-made, laid-over, is-accepted, judged-answer, Placed, all-turned, turn-values}
 use Rattle.play_ticks.proofs.Judging.{all-made}
 use Rattle.play_ticks.proofs.CarriedTogether.{carried-together, values-together}
 
@@ -114,14 +114,16 @@ module _ (s : State) (right : Right s) (b out : List ℕ) (whole : length b % 8 
         let n : length (orderly .events) ≡ length b / 8 = ap length events-known ∙ known-length in
         ends .answers ∙ ap (λ (k : ℕ). map (value (view s)) (orderly .events) ++ drop k out) n ∙ ap (λ (es : List Event). map (value (view s)) es ++ drop (length b / 8) out) events-known
 
-    -- each record left its turn
-    pub each-made : take (length b / 8) (in-places (turns-made (view s) ds)) ≡ map (turn (view s)) ds
-    each-made =
-        let alone = ap (first-refused (view s) 0) (orderly .known) ∙ refuses-none (view s) 0 (orderly .events) (orderly .agreeing .alone) in
-        let m = all-made (view s) ds (none-refused (view s) 0 ds alone) in
+    pub each-alone : EachAlone (view s) ds
+    each-alone = none-refused (view s) 0 ds (ap (first-refused (view s) 0) (orderly .known) ∙ refuses-none (view s) 0 (orderly .events) (orderly .agreeing .alone))
+
+    -- each record left its turn, whatever its place held
+    pub each-made : (before : List Turn) → take (length b / 8) (laid-over (turns-made (view s) ds) before) ≡ map (turn (view s)) ds
+    each-made before =
+        let m = all-made (view s) ds each-alone in
         let n : length (map (turn (view s)) ds) ≡ length b / 8 = length-map ds (turn (view s)) ∙ how-many b in
-        ap (λ (ts : List Turn). take (length b / 8) (in-places ts)) m
-        ∙ take-at (map (turn (view s)) ds) (drop (length (map (turn (view s)) ds)) (replicate most-records no-turn)) (length b / 8) n
+        ap (λ (ts : List Turn). take (length b / 8) (laid-over ts before)) m
+        ∙ take-at (map (turn (view s)) ds) (drop (length (map (turn (view s)) ds)) before) (length b / 8) n
 
     module _ (all : List Turn) (turns : take (length b / 8) all ≡ map (turn (view s)) ds) where
       turns-are : take (length b / 8) all ≡ map (turn (view s)) (map Known (orderly .events))

@@ -42,9 +42,12 @@ unfoldable pub turns-made : Net → List Decoded → List Turn
 turns-made s [] = []
 turns-made s (d ∷ ds) = unless-refused (refusal (record-grounds s d)) (turn s d ∷ turns-made s ds)
 
--- in the places that a tick has for them
+-- in the first places of those that a tick has for them; the others stay
+abbrev pub laid-over : List Turn → List Turn → List Turn
+laid-over ts before = ts ++ drop (length ts) before
+
 abbrev pub in-places : List Turn → List Turn
-in-places ts = ts ++ drop (length ts) (replicate most-records no-turn)
+in-places ts = laid-over ts (replicate most-records no-turn)
 
 -- ---- what is answered
 

@@ -5,10 +5,10 @@ use crate::Turns;
 use crate::pairs::first_pair;
 use chassis::Agent;
 use chassis::MOST_RECORDS;
-use check_tables::labels::ladder;
 use compare_events::feet::foot_of;
 use compare_events::feet::no_foot;
-use events::records::decode_at;
+use events::records::record_at;
+use find_routes::hops::hops;
 use judge_events::judges::refused_plan;
 use network::State;
 use play_events::in_turn::raised;
@@ -27,7 +27,7 @@ ghost use Rattle.network.specs.Soundness.{sound};
 ghost use Rattle.events.specs.Records.{records};
 ghost use Rattle.play_ticks.specs.Turns.{no-turn, turns-made, in-places, judged-answer, Placed, all-turned, turn-values};
 
-fn no_turn() -> Turn
+pub fn no_turn() -> Turn
     ensures { λ r. ⌜ r ≡ no-turn ⌝ }
 {
     let plan = refused_plan(0);
@@ -48,10 +48,10 @@ pub fn judge_all(s: State, r: &[u8]) -> Judgement
     let mut turns: [Turn; MOST_RECORDS] = [no_turn(); MOST_RECORDS];
     let many = r.len() / 8;
     let t = s.table;
-    let ways = ladder(t);
+    let ways = hops(t);
     let mut i: usize = 0;
     while i < many {
-        let d = decode_at(r, i);
+        let d = record_at(r, i);
         let f = record_frame(t, d);
         let place = f.at.0 as usize;
         let here = s.channels[place];

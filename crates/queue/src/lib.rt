@@ -153,7 +153,7 @@ impl Look {
 }
 
 // How many places a walk goes through: a channel that is not sound may claim more entries than it has places.
-fn places(count: usize) -> usize
+pub fn places(count: usize) -> usize
     ensures { λ r. ⌜ r ≡ min count channel-places ⌝ }
 {
     if count < CHANNEL_PLACES {
@@ -164,7 +164,7 @@ fn places(count: usize) -> usize
 }
 
 // A channel that is not sound may hold an entry and count none.
-fn one_less(n: usize) -> usize
+pub fn one_less(n: usize) -> usize
     ensures { λ r. ⌜ r ≡ n - 1 ⌝ }
 {
     if n > 0 { n - 1 } else { 0 }

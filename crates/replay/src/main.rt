@@ -1,4 +1,5 @@
 // Plays stored streams and compares each log with the stored one. Its arguments name the streams: NAME.in and NAME.out.
+use play_inputs::Played;
 use play_inputs::play_input;
 ghost use Prim.Native.Nat.{_≤_};
 
@@ -28,6 +29,14 @@ fn open_named(i: usize, log: bool) -> i32 {
     os::open_read(&path[..n + 3])
 }
 
+// A stream that cannot be read to its end differs too.
+fn is_done(played: Played) -> bool {
+    match played {
+        Played::Done => true,
+        _ => false,
+    }
+}
+
 // Plays stream i and compares its log.
 fn is_same(i: usize) -> bool {
     let input = open_named(i, false);
@@ -39,10 +48,10 @@ fn is_same(i: usize) -> bool {
         libc::close(input);
         return false;
     }
-    let same = play_input(input, log, true);
+    let played = play_input(input, log, true);
     libc::close(input);
     libc::close(log);
-    same
+    is_done(played)
 }
 
 // Stream i with its line; 1 where it differs.

@@ -16,7 +16,7 @@ use denote.RattleType.{RattleType}
 use denote.Laws.{Is}
 use denote.Memory.{mem}
 use denote.Builtin.{One, unit}
-use denote.Ref.{RefT, MutRef, ptr-vals, mut-tells}
+use denote.Ref.{RefT, ptr-vals, mut-tells}
 use denote.Signature.{Slot, plain}
 use denote.Steps.{owned, nothing}
 use denote.Triple.Clauses.{Ended, Clauses}

@@ -1,14 +1,13 @@
--- `is_crossed` follows the way between two agents' buses down the lent ladder; a master channel is never crossed,
--- and from a bus to itself there is no way. What `crosses` asks for follows from `table-passes`.
-use mathlib.Core.Path.{ap, sym, _∙_}
+-- `is_crossed` follows the way between two agents' buses; a master channel is never crossed.
+-- What `crosses` asks for follows from `table-passes`.
+use mathlib.Core.Path.{sym}
 use borrow.Author.Needs.{needs}
 use borrow.Author.Tests.{ltb-true}
-use Rattle.base.specs.Lists.{any}
 use Rattle.base.proofs.Cases.{cases}
 use Rattle.chassis.specs.Channels.{home}
 use Rattle.chassis.specs.Routes.{way}
 use Rattle.chassis.proofs.Numbering.{crossed-master}
-use Rattle.find_routes.proofs.Places.{here, agent-low, home-there}
+use Rattle.find_routes.proofs.Places.{agent-low, home-there}
 use Rattle.find_routes.proofs.routes.is_crossed.Statement.{statement}
 use Rattle.find_routes.proofs.routes.is_crossed.Tie as tie
 
@@ -30,34 +29,20 @@ home-requires-2 c κs =
     let s = c .before .before .before in
     agent-low (s .args .t) (s .pre .0) (s .args .a) (s .pre .2)
 
-returns-2 : tie.Need-returns-2
-unfolding any
-returns-2 c =
-    let m = c .before .before .before .before .home .ensures in
-    let a = c .before .before .before .home2 .ensures in
-    rw (here (c .before .before .before .before .before .before .before .args .t) _ _ (ap (λ b. b .0) (sym m) ∙ c .if2 .taken ∙ ap (λ b. b .0) a))
-
 crosses-requires : tie.Need-crosses-requires
 crosses-requires c κs =
-    let a = c .before .before .before .before .before .before .before .args in
-    let p = c .before .before .before .before .before .before .before .pre in (
+    let a = c .before .before .before .before .args in
+    let p = c .before .before .before .before .pre in (
       p .0,
       p .3,
-      rw (c .before .before .before .before .home .ensures) (home-there (a .t) (p .0) (a .m) (p .1)),
-      rw (c .before .before .before .home2 .ensures) (home-there (a .t) (p .0) (a .a) (p .2)),
+      rw (c .before .home .ensures) (home-there (a .t) (p .0) (a .m) (p .1)),
+      rw (c .home2 .ensures) (home-there (a .t) (p .0) (a .a) (p .2)),
     )
 
-returns-3 : tie.Need-returns-3
-returns-3 c = rw (c .crosses .ensures, c .before .before .before .before .before .home .ensures, c .before .before .before .before .home2 .ensures)
+returns-2 : tie.Need-returns-2
+returns-2 c = rw (c .crosses .ensures, c .before .before .home .ensures, c .before .home2 .ensures)
 
 pub is-crossed-spec : {M : Type 1} → statement M
 is-crossed-spec =
     tie.close
-    (tie.spec
-    is-master-requires
-    returns
-    home-requires
-    home-requires-2
-    returns-2
-    crosses-requires
-    returns-3)
+    (tie.spec is-master-requires returns home-requires home-requires-2 crosses-requires returns-2)

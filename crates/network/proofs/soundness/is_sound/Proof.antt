@@ -11,7 +11,6 @@ use Rattle.base.proofs.Walks.{owned}
 use Rattle.base.proofs.Loops.{Left, cells-left, stops, goes-on, ends}
 use Rattle.chassis.specs.Tables.{table-passes}
 use Rattle.chassis.specs.Capacities.{most-channels}
-use Rattle.find_routes.proofs.Places.{in-range}
 use Rattle.check_tables.proofs.Asking.{answered-passes, answered-refused}
 use Rattle.network.specs.Shapes.{no-channel}
 use Rattle.network.specs.code.Testing.{sound-channel}
@@ -42,8 +41,8 @@ enum-told c = search needs
 passes : (c : tie.After-enum-told Inv-loop μ-loop) → table-passes (c .before .before .before .before .args .t1 .table) ≡ true
 passes c = answered-passes _ (sym (c .before .before .table-answer .ensures) ∙ c .enum-told .given .1)
 
-ladder-requires : tie.Need-ladder-requires Inv-loop μ-loop
-ladder-requires c κs = in-range _ (passes c)
+hops-requires : tie.Need-hops-requires Inv-loop μ-loop
+hops-requires c κs = passes c
 
 loop-holds : tie.Need-loop-holds Inv-loop μ-loop
 loop-holds c =
@@ -60,7 +59,7 @@ element-copy-out-c : tie.Need-element-copy-out-c Inv-loop μ-loop
 element-copy-out-c c = search needs
 
 is-sound-channel-requires : tie.Need-is-sound-channel-requires Inv-loop μ-loop
-is-sound-channel-requires c κs = (passes (c .before .before .before .before .before .before), omega arith, c .before .before .before .before .before .ladder .ensures)
+is-sound-channel-requires c κs = (passes (c .before .before .before .before .before .before), omega arith, c .before .before .before .before .before .hops .ensures)
 
 returns-2 : tie.Need-returns-2 Inv-loop μ-loop
 returns-2 c =
@@ -96,7 +95,7 @@ is-sound-spec =
     enum-known-checked
     returns
     enum-told
-    ladder-requires
+    hops-requires
     loop-holds
     cast-i
     mul-c

@@ -2,8 +2,7 @@
 -- The idea: what is left to do, done from here, is the whole (`Playing`); a turn reads what the state shows, so its plan is the record's own, and stores what the step stores.
 use lib.ListN.{length}
 use mathlib.Core.Path.{refl, ap, sym, _∙_}
-use Rattle.check_tables.specs.Ladders.{ladder-of}
-use Rattle.find_routes.proofs.Places.{in-range}
+use Rattle.find_routes.specs.Hops.{hops-of}
 use Rattle.network.proofs.OfType.{of-type}
 use Rattle.events.proofs.SoundStays.{Right}
 use Rattle.read_events.specs.declared.Frame.{Frame}
@@ -33,31 +32,31 @@ right : (c : tie.In-loop Inv-loop μ-loop) → Right (c .before .loop .state)
 right c = c .before .loop .inv .0 .right
 
 framed-at : (c : tie.After-record-frame Inv-loop μ-loop) → Framed (c .before .before .before .before .loop .state) (c .record-frame .result)
-framed-at c = framed (c .before .before .before .before .loop .state) (right (c .before .before .before)) (c .before .before .decode-at .result) (c .record-frame .result) (c .record-frame .ensures)
+framed-at c = framed (c .before .before .before .before .loop .state) (right (c .before .before .before)) (c .before .before .record-at .result) (c .record-frame .result) (c .record-frame .ensures)
 
 noticed-at : (c : tie.After-noticed Inv-loop μ-loop) → Noticed (c .noticed .result)
 noticed-at c =
     let f = c .before .before .before .before in
-    noticed (f .before .before .before .before .loop .state) (right (f .before .before .before)) (f .before .before .decode-at .result) (f .record-frame .result) (f .record-frame .ensures) (c .noticed .result) (c .noticed .ensures)
+    noticed (f .before .before .before .before .loop .state) (right (f .before .before .before)) (f .before .before .record-at .result) (f .record-frame .result) (f .record-frame .ensures) (c .noticed .result) (c .noticed .ensures)
 
-planned-at : (c : tie.After-told Inv-loop μ-loop) → Planned (c .before .before .before .before .before .before .before .before .before .before .before .before .before .before .before .before .before .loop .state) (c .before .before .before .before .before .before .before .before .before .before .before .before .before .before .before .decode-at .result) (c .told .result)
+planned-at : (c : tie.After-told Inv-loop μ-loop) → Planned (c .before .before .before .before .before .before .before .before .before .before .before .before .before .before .before .before .before .loop .state) (c .before .before .before .before .before .before .before .before .before .before .before .before .before .before .before .record-at .result) (c .told .result)
 planned-at c =
     let f = c .before .before .before .before .before .before .before .before .before .before .before .before .before in
     let n = c .before .before .before .before .before .before .before .before .before .noticed in
-    planned (f .before .before .before .before .loop .state) (right (f .before .before .before)) (f .before .before .decode-at .result) (f .record-frame .result) (f .record-frame .ensures) (n .result) (n .ensures) (c .told .result) (c .told .ensures)
+    planned (f .before .before .before .before .loop .state) (right (f .before .before .before)) (f .before .before .record-at .result) (f .record-frame .result) (f .record-frame .ensures) (n .result) (n .ensures) (c .told .result) (c .told .ensures)
 
 -- ---- the places are there
 
-ladder-requires : tie.Need-ladder-requires Inv-loop μ-loop
-ladder-requires c κs = let s = c .before .before .before in in-range (s .args .s .table) (table-of (s .args .s) (came-in s))
+hops-requires : tie.Need-hops-requires Inv-loop μ-loop
+hops-requires c κs = let s = c .before .before .before in table-of (s .args .s) (came-in s)
 
 loop-holds : tie.Need-loop-holds Inv-loop μ-loop
 loop-holds c =
     let s = c .before .before .before .before in
     (at-first (s .args .r .now) (s .args .refusals .now) (s .args .values .now) (s .args .s) _ refl (came-in s), s .pre .1, s .pre .2)
 
-decode-at-requires : tie.Need-decode-at-requires Inv-loop μ-loop
-decode-at-requires c κs = search owned
+record-at-requires : tie.Need-record-at-requires Inv-loop μ-loop
+record-at-requires c κs = search owned
 
 record-frame-requires : tie.Need-record-frame-requires Inv-loop μ-loop
 record-frame-requires c κs = search owned
@@ -75,7 +74,7 @@ noticed-requires : tie.Need-noticed-requires Inv-loop μ-loop
 noticed-requires c κs =
     let f = framed-at (c .before .before .before) in
     let lp = c .before .before .before .before .before .before .before in
-    (f .passes, f .has-at, f .aimed, lp .before .ladder .ensures ∙ ap ladder-of (sym (lp .loop .inv .0 .table)))
+    (f .passes, f .has-at, f .aimed, lp .before .hops .ensures ∙ ap hops-of (sym (lp .loop .inv .0 .table)))
 
 cast-u : tie.Need-cast-u Inv-loop μ-loop
 cast-u c = search owned
@@ -210,7 +209,7 @@ loop-again : tie.Need-loop-again Inv-loop μ-loop
 loop-again c =
     let lp = c .before .before .before .before .before .before .before .before .before .before .before .before .before .before .before .before .before .before .before .before .before .before .before .before .before .before .before .before .before .before .loop in
     let a = c .before .before .before .before .before .before .before .before .before .before .before .before .before .before .before .before .before .before .before .before .before .before .before .before .before .before .before .before .before .before .before .before .before .before .before .args in
-    let dc = c .before .before .before .before .before .before .before .before .before .before .before .before .before .before .before .before .before .before .before .before .before .before .before .before .before .before .before .before .decode-at in
+    let dc = c .before .before .before .before .before .before .before .before .before .before .before .before .before .before .before .before .before .before .before .before .before .before .before .before .before .before .before .before .record-at in
     let fr = c .before .before .before .before .before .before .before .before .before .before .before .before .before .before .before .before .before .before .before .before .before .before .before .before .before .before .record-frame in
     let p = c .before .before .before .before .before .before .before .before .before .before .before .before .before .told .result in
     let is = planned-at (c .before .before .before .before .before .before .before .before .before .before .before .before .before) .is in
@@ -243,9 +242,9 @@ play-spec =
     (tie.spec
     Inv-loop
     μ-loop
-    ladder-requires
+    hops-requires
     loop-holds
-    decode-at-requires
+    record-at-requires
     record-frame-requires
     cast-place
     mul-here

@@ -3,7 +3,6 @@
 use lib.ListN.{getD}
 use mathlib.Core.Bool.{cond}
 use mathlib.Core.Path.{_≡_, refl, ap, _∙_}
-use Rattle.find_routes.proofs.Places.{in-range}
 use Rattle.network.specs.code.Acts.{acted-on, counted}
 use Rattle.network.proofs.OfType.{of-type}
 use Rattle.events.specs.declared.Decoded.the-variants.{Known}
@@ -44,8 +43,8 @@ number-is c = let a = c .before .before .before .before .before .before .before 
 
 -- ---- the places are there
 
-ladder-requires : tie.Need-ladder-requires
-ladder-requires c κs = let s = c .before in in-range (s .args .t1 .table) (table-of (s .args .t1) (right s))
+hops-requires : tie.Need-hops-requires
+hops-requires c κs = let s = c .before in table-of (s .args .t1) (right s)
 
 event-frame-requires : tie.Need-event-frame-requires
 event-frame-requires c κs = search needs
@@ -60,7 +59,7 @@ element-copy-out-here : tie.Need-element-copy-out-here
 element-copy-out-here c = framed-at (c .before) .at
 
 noticed-requires : tie.Need-noticed-requires
-noticed-requires c κs = let f = framed-at (c .before .before .before) in (f .passes, f .has-at, f .aimed, c .before .before .before .before .ladder .ensures)
+noticed-requires c κs = let f = framed-at (c .before .before .before) in (f .passes, f .has-at, f .aimed, c .before .before .before .before .hops .ensures)
 
 cast-u : tie.Need-cast-u
 cast-u c = search needs
@@ -147,7 +146,7 @@ pub inner-step-spec : {M : Type 1} → statement M
 inner-step-spec =
     tie.close
     (tie.spec
-    ladder-requires
+    hops-requires
     event-frame-requires
     cast-place
     mul-here

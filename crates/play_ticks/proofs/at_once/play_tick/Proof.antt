@@ -4,16 +4,17 @@ use mathlib.Core.Path.{_≡_, ap, sym, _∙_}
 use mathlib.Core.List.{map}
 use Prim.Native.Nat.{_/_}
 use native.Mathlib.Omega.{arith}
-use lib.ListN.{length, take}
+use lib.ListN.{length, take, replicate}
 use borrow.Author.Tests.{not-true, not-false}
 use Rattle.base.proofs.Walks.{owned}
+use Rattle.chassis.specs.Capacities.{most-records}
 use Rattle.network.specs.Nets.{view}
 use Rattle.network.proofs.OfType.{of-type}
 use Rattle.events.specs.Records.{records}
 use Rattle.events.proofs.SoundStays.{Right}
 use Rattle.ticks.specs.declared.TickAnswer.the-variants.{Accepted}
 use Rattle.ticks.specs.Ticks.{Ticked}
-use Rattle.play_ticks.specs.Turns.{turn, is-accepted, judged-answer}
+use Rattle.play_ticks.specs.Turns.{no-turn, turn, is-accepted, judged-answer}
 use Rattle.play_ticks.proofs.TickPlayed.{accepted-so, placed-all, answer-is, refused-stays, each-made, state-is, answers-are}
 use Rattle.play_ticks.proofs.at_once.play_tick.Statement.{statement}
 use Rattle.play_ticks.proofs.at_once.play_tick.Tie as tie
@@ -29,7 +30,7 @@ turns-are c =
     let s = c .before .before .before .before .before in
     let a = s .args in
     ap (take (length (a .r .now) / 8)) (c .before .before .judge-all .ensures .1)
-    ∙ each-made (a .s) (right s) (a .r .now) (a .answers .now) (s .pre .1) (s .pre .2) (s .pre .3) (accepted c)
+    ∙ each-made (a .s) (right s) (a .r .now) (a .answers .now) (s .pre .1) (s .pre .2) (s .pre .3) (accepted c) (replicate most-records no-turn)
 
 judge-all-requires : tie.Need-judge-all-requires
 judge-all-requires c κs = let s = c .before .before in (s .pre .0, s .pre .2)

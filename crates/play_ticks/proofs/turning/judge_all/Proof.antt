@@ -1,24 +1,25 @@
 -- `judge_all` is the tick's answer past 16, 18 and 17, with the turns of the records up to the first that is refused.
 -- The idea: what is left to judge, judged from here, gives the answer (`Judging`); each record is read off the one state.
-use mathlib.Core.Path.{refl, ap, _∙_}
+use mathlib.Core.Path.{refl, sym, ap, subst, _∙_}
+use mathlib.Core.List.{List}
 use native.Mathlib.Omega.{arith}
 use Prim.Native.Nat.{_≤_, _-_, _/_}
-use lib.ListN.{length, replicate}
+use lib.ListN.{length, replicate, length-replicate}
 use Rattle.base.proofs.Walks.{owned}
 use Rattle.chassis.specs.Capacities.{most-records}
-use Rattle.find_routes.proofs.Places.{in-range}
 use Rattle.network.specs.Nets.{view}
 use Rattle.network.proofs.OfType.{of-type}
 use Rattle.events.proofs.SoundStays.{Right}
 use Rattle.play_events.proofs.Carried.{table-of}
 use Rattle.play_events.proofs.Reading.{Framed, framed, Noticed, noticed, Planned, planned}
-use Rattle.play_ticks.specs.Turns.{turn}
+use Rattle.play_ticks.specs.declared.Turn.{Turn}
+use Rattle.play_ticks.specs.Turns.{no-turn, turn}
 use Rattle.play_ticks.proofs.Judging.{Judging, judge-first, judge-on, judge-stop, made-stop, made-over, pairs-decide, in-their-places, turn-read}
 use Rattle.play_ticks.proofs.turning.judge_all.Statement.{statement}
 use Rattle.play_ticks.proofs.turning.judge_all.Tie as tie
 
 abbrev Inv-loop : tie.InvT-loop
-Inv-loop r s turns₀ many t ways i₀ turns i = Judging (view s) r many turns i
+Inv-loop r s turns₀ many t ways i₀ turns i = Judging (view s) r many (replicate most-records no-turn) turns i
 
 abbrev μ-loop : tie.MeasureT-loop
 μ-loop r s turns₀ many t ways i₀ turns i = many - i
@@ -29,37 +30,38 @@ right : (c : tie.Start Inv-loop μ-loop) → Right (c .args .t1)
 right c = record { shaped = of-type (c .args .t1) _ (c .good .0); is-sound = c .pre .0 }
 
 framed-at : (c : tie.After-record-frame Inv-loop μ-loop) → Framed (c .before .before .before .before .before .before .before .before .args .t1) (c .record-frame .result)
-framed-at c = let s = c .before .before .before .before .before .before .before .before in framed (s .args .t1) (right s) (c .before .decode-at .result) (c .record-frame .result) (c .record-frame .ensures)
+framed-at c = let s = c .before .before .before .before .before .before .before .before in framed (s .args .t1) (right s) (c .before .record-at .result) (c .record-frame .result) (c .record-frame .ensures)
 
 noticed-at : (c : tie.After-noticed Inv-loop μ-loop) → Noticed (c .noticed .result)
 noticed-at c =
     let s = c .before .before .before .before .before .before .before .before .before .before .before .before in
     let f = c .before .before .before .before .record-frame in
-    noticed (s .args .t1) (right s) (c .before .before .before .before .before .decode-at .result) (f .result) (f .ensures) (c .noticed .result) (c .noticed .ensures)
+    noticed (s .args .t1) (right s) (c .before .before .before .before .before .record-at .result) (f .result) (f .ensures) (c .noticed .result) (c .noticed .ensures)
 
-planned-at : (c : tie.After-told Inv-loop μ-loop) → Planned (c .before .before .before .before .before .before .before .before .before .before .before .before .before .before .before .before .before .before .before .before .before .before .args .t1) (c .before .before .before .before .before .before .before .before .before .before .before .before .before .before .before .decode-at .result) (c .told .result)
+planned-at : (c : tie.After-told Inv-loop μ-loop) → Planned (c .before .before .before .before .before .before .before .before .before .before .before .before .before .before .before .before .before .before .before .before .before .before .args .t1) (c .before .before .before .before .before .before .before .before .before .before .before .before .before .before .before .record-at .result) (c .told .result)
 planned-at c =
     let s = c .before .before .before .before .before .before .before .before .before .before .before .before .before .before .before .before .before .before .before .before .before .before in
     let f = c .before .before .before .before .before .before .before .before .before .before .before .before .before .before .record-frame in
     let n = c .before .before .before .before .before .before .before .before .before .before .noticed in
-    planned (s .args .t1) (right s) (c .before .before .before .before .before .before .before .before .before .before .before .before .before .before .before .decode-at .result) (f .result) (f .ensures) (n .result) (n .ensures) (c .told .result) (c .told .ensures)
+    planned (s .args .t1) (right s) (c .before .before .before .before .before .before .before .before .before .before .before .before .before .before .before .record-at .result) (f .result) (f .ensures) (n .result) (n .ensures) (c .told .result) (c .told .ensures)
 
 -- ---- the places are there
 
 no-turn-requires : tie.Need-no-turn-requires Inv-loop μ-loop
 no-turn-requires c κs = search owned
 
-ladder-requires : tie.Need-ladder-requires Inv-loop μ-loop
-ladder-requires c κs = let s = c .before .before .before in in-range (s .args .t1 .table) (table-of (s .args .t1) (right s))
+hops-requires : tie.Need-hops-requires Inv-loop μ-loop
+hops-requires c κs = let s = c .before .before .before in table-of (s .args .t1) (right s)
 
 loop-holds : tie.Need-loop-holds Inv-loop μ-loop
 loop-holds c =
     let s = c .before .before .before .before in
     let f = s .pre .1 in
-    judge-first (view (s .args .t1)) (s .args .r .now) _ _ refl (omega arith) (ap (replicate most-records) (c .before .before .no-turn .ensures))
+    subst (λ (l : List Turn). Judging (view (s .args .t1)) (s .args .r .now) (length (s .args .r .now) / 8) (replicate most-records no-turn) l 0) (sym (ap (replicate most-records) (c .before .before .no-turn .ensures)))
+    (judge-first (view (s .args .t1)) (s .args .r .now) _ (replicate most-records no-turn) refl (omega arith) (length-replicate most-records no-turn))
 
-decode-at-requires : tie.Need-decode-at-requires Inv-loop μ-loop
-decode-at-requires c κs = let k = c .before .loop .inv .count in let t = c .loop-test in omega arith
+record-at-requires : tie.Need-record-at-requires Inv-loop μ-loop
+record-at-requires c κs = let k = c .before .loop .inv .count in let t = c .loop-test in omega arith
 
 record-frame-requires : tie.Need-record-frame-requires Inv-loop μ-loop
 record-frame-requires c κs = search owned
@@ -74,7 +76,7 @@ element-copy-out-here : tie.Need-element-copy-out-here Inv-loop μ-loop
 element-copy-out-here c = framed-at (c .before) .at
 
 noticed-requires : tie.Need-noticed-requires Inv-loop μ-loop
-noticed-requires c κs = let f = framed-at (c .before .before .before) in (f .passes, f .has-at, f .aimed, c .before .before .before .before .before .before .before .ladder .ensures)
+noticed-requires c κs = let f = framed-at (c .before .before .before) in (f .passes, f .has-at, f .aimed, c .before .before .before .before .before .before .before .hops .ensures)
 
 cast-u : tie.Need-cast-u Inv-loop μ-loop
 cast-u c = search owned
@@ -128,8 +130,8 @@ returns c =
     let p = c .before in
     let more = c .before .before .before .before .before .before .before .before .before .before .before .before .before .before .before .before .before .loop-test in
     let z = c .if1 .taken in (
-      judge-stop (view (a .t1)) (a .r .now) _ (lp .turns) (lp .i) (lp .inv) (omega arith) (d .decode-at .result) (d .decode-at .ensures) (p .told .result) (planned-at p .is) z,
-      in-their-places (view (a .t1)) (a .r .now) _ (lp .turns) (lp .i) (lp .inv) (made-stop (view (a .t1)) (a .r .now) _ (lp .turns) (lp .i) (lp .inv) (omega arith) (d .decode-at .result) (d .decode-at .ensures) (p .told .result) (planned-at p .is) z),
+      judge-stop (view (a .t1)) (a .r .now) _ _ (lp .turns) (lp .i) (lp .inv) (omega arith) (d .record-at .result) (d .record-at .ensures) (p .told .result) (planned-at p .is) z,
+      in-their-places (view (a .t1)) (a .r .now) _ _ (lp .turns) (lp .i) (lp .inv) (made-stop (view (a .t1)) (a .r .now) _ _ (lp .turns) (lp .i) (lp .inv) (omega arith) (d .record-at .result) (d .record-at .ensures) (p .told .result) (planned-at p .is) z),
     )
 
 -- ---- accepted alone
@@ -158,8 +160,8 @@ loop-again c =
     let f = c .before .before .before .before .before .before .before .before .before .before .before .before .before .before .before .before .record-frame in
     let n = c .before .before .before .before .before .before .before .before .before .before .before .before .noticed in
     let p = c .before .before in
-    judge-on (view (a .t1)) (a .r .now) _ (lp .turns) (lp .i) (lp .inv) (let t = c .before .before .before .before .before .before .before .before .before .before .before .before .before .before .before .before .before .before .loop-test in omega arith) (d .decode-at .result) (d .decode-at .ensures) _
-    (turn-read (a .t1) (right st) (d .decode-at .result) (f .result) (f .ensures) (n .result) (n .ensures) (p .told .result) (planned-at p .is) (c .foot-of .result) (c .foot-of .ensures))
+    judge-on (view (a .t1)) (a .r .now) _ _ (lp .turns) (lp .i) (lp .inv) (let t = c .before .before .before .before .before .before .before .before .before .before .before .before .before .before .before .before .before .before .loop-test in omega arith) (d .record-at .result) (d .record-at .ensures) _
+    (turn-read (a .t1) (right st) (d .record-at .result) (f .result) (f .ensures) (n .result) (n .ensures) (p .told .result) (planned-at p .is) (c .foot-of .result) (c .foot-of .ensures))
     (c .before .if1 .left)
 
 first-pair-requires : tie.Need-first-pair-requires Inv-loop μ-loop
@@ -171,8 +173,8 @@ returns-2 c =
     let lp = c .before .before .loop in
     let t = c .before .loop-test in
     let over : length (a .r .now) / 8 ≤ lp .i = omega arith in (
-      c .first-pair .ensures ∙ pairs-decide (view (a .t1)) (a .r .now) _ (lp .turns) (lp .i) (lp .inv) over,
-      in-their-places (view (a .t1)) (a .r .now) _ (lp .turns) (lp .i) (lp .inv) (made-over (view (a .t1)) (a .r .now) _ (lp .turns) (lp .i) (lp .inv) over),
+      c .first-pair .ensures ∙ pairs-decide (view (a .t1)) (a .r .now) _ _ (lp .turns) (lp .i) (lp .inv) over,
+      in-their-places (view (a .t1)) (a .r .now) _ _ (lp .turns) (lp .i) (lp .inv) (made-over (view (a .t1)) (a .r .now) _ _ (lp .turns) (lp .i) (lp .inv) over),
     )
 
 pub judge-all-spec : {M : Type 1} → statement M
@@ -182,9 +184,9 @@ judge-all-spec =
     Inv-loop
     μ-loop
     no-turn-requires
-    ladder-requires
+    hops-requires
     loop-holds
-    decode-at-requires
+    record-at-requires
     record-frame-requires
     cast-place
     mul-here

@@ -1,0 +1,3 @@
+-- What the routes are found by.
+pub mod Hops
+pub mod Crossings

@@ -1,0 +1,3 @@
+pub mod PlanIn
+pub mod SettleIn
+pub mod StepIn

@@ -1,0 +1,4 @@
+pub mod ClearChannels
+pub mod EntriesLeftIn
+pub mod IsSoundIn
+pub mod OpenIn

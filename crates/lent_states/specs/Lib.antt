@@ -1,0 +1,3 @@
+-- What is said of a lent state.
+pub mod Stores
+pub mod Held

@@ -1,3 +1,0 @@
--- Laws of an input played block by block.
-pub mod Going
-pub mod WholeInput
