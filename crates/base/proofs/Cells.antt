@@ -47,6 +47,7 @@ module _ {A : Type 0} where
   in_append (b ∷ k) l (later i) = ⊎_elim (λ j. inl (later j)) (λ j. inr j) (in_append k l i)
 
   pub in_left : (k l : List A) {a : A} → In a k → In a (k ++ l)
+  in_left [] l i = elim i [ ]
   in_left (b ∷ k) l first = first
   in_left (b ∷ k) l (later i) = later (in_left k l i)
 
@@ -86,6 +87,7 @@ module _ {A : Type 0} where
 
   pub in_found : (p : A → Bool) (l : List A) {a : A} → In a l → p a ≡ true → is_some (find p l) ≡ true
   unfolding find
+  in_found p [] i h = elim i [ ]
   in_found p (b ∷ l) first h = rw h
   in_found p (b ∷ l) (later i) h = split (p b) (λ t. rw t) (λ f. rw f (in_found p l i h))
 

@@ -32,6 +32,7 @@ module _ {A : Type 0} (p : A → Bool) where
 
   pub in_only : (l : List A) {x : A} → In x l → p x ≡ true → In x (only p l)
   unfolding only
+  in_only [] i h = elim i [ ]
   in_only (y ∷ l) first h = rw h first
   in_only (y ∷ l) (later i) h = split (p y) (λ t. rw t (later (in_only l i h))) (λ f. rw f (in_only l i h))
 

@@ -1,4 +1,7 @@
 // Blocks of 512 bytes.
+
+#![tactic(auto)]
+
 pub mod checks;
 
 // What a block is found to be: refused with document 01's number, a table, single steps, or one tick. (The table itself is

@@ -1,5 +1,7 @@
 // The table: buses, bridges and agents, and what follows from it alone.
 
+#![tactic(auto)]
+
 pub mod channels; // channels.rt: channels and their buses
 
 // How much there may be: agents; channels, one for each agent and two for each of 15 bridges; records of one list, and their bytes.

@@ -1,4 +1,7 @@
 // What the events of a cycle are compared by.
+
+#![tactic(auto)]
+
 pub mod feet;
 
 use chassis::{Agent, Bus, Chan};

@@ -1,4 +1,7 @@
 // One step: an event is one of nine kinds, each with its own fields.
+
+#![tactic(auto)]
+
 pub mod accounts;
 pub mod reads;
 pub mod records;

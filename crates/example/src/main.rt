@@ -4,6 +4,9 @@
 // The chassis is that of the README: buses 0, 1 and 2 in a row, bridge 0 between the first two and bridge 1 between the
 // last two; agent 0 on bus 0, agent 1 on bus 1, agents 2 and 3 on bus 2. So channels 0 to 3 are the agents' own, 4 and
 // 5 are bridge 0 forth and back, 6 and 7 bridge 1.
+
+#![tactic(auto)]
+
 use chassis::{Agent, Bridge, Bus, Chan, MOST_AGENTS, NextPlace, RouteAnswer, Table, TableAnswer};
 use events::Answer;
 use find_routes::routes::route;

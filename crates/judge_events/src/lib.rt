@@ -1,4 +1,7 @@
 // What is said of a record by one who is told what its channels show: a refusal, or what is to be done.
+
+#![tactic(auto)]
+
 pub mod judges;
 
 use network::Act;

@@ -1,4 +1,7 @@
 // A lent channel, looked at and changed where it lies.
+
+#![tactic(auto)]
+
 pub mod changes; // changes.rt: what a change makes of a lent channel
 pub mod looks; // looks.rt: what a lent channel shows
 

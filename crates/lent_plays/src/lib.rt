@@ -1,4 +1,7 @@
 // Records played on a lent state: what is asked of its channels, what is said, and what is stored.
+
+#![tactic(auto)]
+
 pub mod questions; // questions.rt: what a record asks of which channel
 pub mod judging; // judging.rt: a record's plan, read off a lent state
 pub mod settling; // settling.rt: a plan carried out where the state lies

@@ -1,4 +1,7 @@
 // A lent state, read and changed where it lies.
+
+#![tactic(auto)]
+
 pub mod channels; // channels.rt: one of its channels, lent on
 pub mod leaves; // leaves.rt: one place of it
 pub mod left; // left.rt: the entries left in all channels

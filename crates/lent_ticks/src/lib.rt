@@ -1,4 +1,7 @@
 // One cycle played on a lent state.
+
+#![tactic(auto)]
+
 pub mod leaves; // leaves.rt: one place of the lent turns
 pub mod pairs; // pairs.rt: the lowest conflicting pair among them
 pub mod carrying; // carrying.rt: turns carried out where the state lies

@@ -1,2 +1,5 @@
 // The log's lines, as bytes.
+
+#![tactic(auto)]
+
 pub mod lines;

@@ -1,4 +1,7 @@
 // The state of a network: table, channels, and the counts of accepted begins.
+
+#![tactic(auto)]
+
 ghost use Rattle.std.specs.Prelude.{◌≡◌};
 ghost use Rattle.chassis.specs.Tables.{zero_table};
 ghost use Rattle.network.specs.code.Acts.{acted_on, counted};

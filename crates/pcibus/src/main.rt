@@ -1,5 +1,8 @@
 // Reads blocks from standard input and prints the log. What cannot be read or written is told on standard error: the script
 // `pcibus` makes a status of that.
+
+#![tactic(auto)]
+
 use play_inputs::{Played, play_input};
 
 fn main() {

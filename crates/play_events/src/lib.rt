@@ -1,4 +1,7 @@
 // Records played: what is read off the state for a record, and the functions that hold the state.
+
+#![tactic(auto)]
+
 pub mod in_turn;
 pub mod notices;
 pub mod steps;

@@ -8,6 +8,9 @@
 // What is not: that the bytes are those of the input and that the log arrives. No contract can speak of what a descriptor
 // brings or takes. So neither is it proved that a turn hands on all that it printed; that is compared (crates/pcibus/stdout,
 // crates/replay/data). The same loop over lent bytes is `run_inputs::run`, of which all of this is proved.
+
+#![tactic(auto)]
+
 ghost use Rattle.std.specs.Prelude.{◌≡◌, true, false, ◌≤◌, length};
 ghost use Rattle.run_inputs.specs.Inputs.{next_goes_on};
 ghost use Rattle.play_inputs.specs.Endings.{can_end, Within};

@@ -1,5 +1,8 @@
 // One cycle played. Every record is judged once, in the state that the tick starts in, and leaves a turn: its plan and its foot. Feet
 // are compared pair by pair; then the plans are carried out, and nothing is judged again.
+
+#![tactic(auto)]
+
 pub mod at_once;
 pub mod pairs;
 pub mod turning;

@@ -1,4 +1,7 @@
 // What waits: entries, and the channel that holds them oldest first.
+
+#![tactic(auto)]
+
 ghost use Rattle.std.specs.Prelude.{◌<◌, ◌-◌, min, ◌≡◌, drop};
 ghost use Rattle.base.specs.Lists.{all};
 ghost use Rattle.queue.specs.Entries.{zero_entry, is_kind, is_named, marked, as_kind, is_zero_entry};

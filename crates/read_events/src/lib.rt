@@ -1,4 +1,7 @@
 // What a record points to, and what is seen there.
+
+#![tactic(auto)]
+
 pub mod frames;
 pub mod sights;
 

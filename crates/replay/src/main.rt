@@ -1,4 +1,7 @@
 // Plays stored streams and compares each log with the stored one. Its arguments name the streams: NAME.in and NAME.out.
+
+#![tactic(auto)]
+
 ghost use Rattle.std.specs.Prelude.{◌≤◌};
 
 use play_inputs::{Played, play_input};

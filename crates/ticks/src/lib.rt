@@ -1,4 +1,7 @@
 // One cycle: the events of a tick are judged against one state, and their order cannot matter.
+
+#![tactic(auto)]
+
 use network::State;
 
 // What a tick answers; the state stands beside it. `record` and `other` are places in the list, from 0.

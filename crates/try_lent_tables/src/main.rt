@@ -1,4 +1,7 @@
 // Tables of document 01 whose lists are lent, and the number of each answer: 0 is accepted. The lists lie in arrays, of which `check_arrays` lends the first few.
+
+#![tactic(auto)]
+
 use chassis::{Bridge, Bus, TableAnswer};
 use lent_tables::lends::{between_arrays, check_arrays};
 use lent_tables::{Joined, Numbers};

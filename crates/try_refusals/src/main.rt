@@ -1,6 +1,9 @@
 // Calls of the library that no input of the program can make: unsound states (16), answer lists that are too short (17), record
 // bytes that are not whole or too many (18). Each line: what is called, the number, the value or the two records, then the lent
 // answer list, whose places are 7 before each call.
+
+#![tactic(auto)]
+
 use chassis::{Agent, Bridge, Bus, MOST_AGENTS, Table};
 use events::{Answer, Event, Step};
 use logs::runs::{tick_number, tick_other, tick_record};

@@ -1,6 +1,9 @@
 // Runs over lent bytes: into a buffer with room to spare, one that is too short and an empty one, then of an input without any
 // block. Each line: what is tried, the length of the whole log and how much of it did not fit; then the buffer, whose places
 // held `.` before.
+
+#![tactic(auto)]
+
 use run_inputs::run;
 
 fn missing(length: usize, room: usize) -> usize {

@@ -1,1 +1,3 @@
 // Laws for functions that are walked by hand, since a struct is lent to them. No code.
+
+#![tactic(auto)]
