@@ -2,7 +2,7 @@
 -- for each channel too.
 use Prim.Native.Nat.{ℕ, zero, suc, ◌<◌}
 use mathlib.Core.Path.{◌≡◌}
-use mathlib.Core.List.{List, [], ◌∷◌, map}
+use mathlib.Core.List.{List, [], ◌∷◌}
 use native.Mathlib.Omega.{arith}
 use borrow.Author.Rules.{rules}
 use mir.Val.{Val, Fits}
@@ -21,18 +21,18 @@ use Rattle.network.specs.declared.State.{State}
 use Rattle.network.specs.Shapes.{Shaped, no_channel}
 
 -- what holds of each element of an array, one by one
-each_is : {A : Type 0} (d : Type 0) (f : d → List Val → Fml) (g : A → d) (Q : A → Type 0) → ((x : A) (vs : List Val) → shadow (f (g x) vs) → Q x)
-    → (xs : List A) (us : List Val) → shadow (each d f (map g xs) us) → (i : ℕ) → i < length xs → (z : A) → Q (get_or xs i z)
-each_is d f g Q h [] us k i l z = absurd (omega arith)
-each_is d f g Q h (x ∷ xs) [] k i l z = absurd k
-each_is d f g Q h (x ∷ xs) (u ∷ us) k zero l z = h x (u ∷ []) k.0
-each_is d f g Q h (x ∷ xs) (u ∷ us) k (suc i) l z = each_is d f g Q h xs us k.1 i (omega arith) z
+each_is : {A : Type 0} (f : A → List Val → Fml) (Q : A → Type 0) → ((x : A) (vs : List Val) → shadow (f x vs) → Q x)
+    → (xs : List A) (us : List Val) → shadow (each A f xs us) → (i : ℕ) → i < length xs → (z : A) → Q (get_or xs i z)
+each_is f Q h [] us k i l z = absurd (omega arith)
+each_is f Q h (x ∷ xs) [] k i l z = absurd k
+each_is f Q h (x ∷ xs) (u ∷ us) k zero l z = h x (u ∷ []) k.0
+each_is f Q h (x ∷ xs) (u ∷ us) k (suc i) l z = each_is f Q h xs us k.1 i (omega arith) z
 
 pub of_type : (s : State) (vs : List Val) → Is S.the_row s vs → Shaped s
 of_type s vs h = record {
   channels = search owned;
   begins = search owned;
-  entries = λ i l. each_is _ (C.the_field).row.own_val _ (λ c. length c.entries ≡ channel_places) (λ x us k. search owned) s.channels h.1.1.1.0.0 h.1.1.1.0.1.1 i (let n : length s.channels ≡ most_channels = search owned in omega arith) no_channel;
+  entries = λ i l. each_is (C.the_row).own_val (λ c. length c.entries ≡ channel_places) (λ x us k. search owned) s.channels h.1.1.1.0.0 h.1.1.1.0.1.1 i (let n : length s.channels ≡ most_channels = search owned in omega arith) no_channel;
   counts = λ a l. let f : Fits w16 (get_or s.begins a 0) = search rules in omega arith;
   limits = search owned;
   pairs = search owned;

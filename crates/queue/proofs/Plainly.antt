@@ -65,7 +65,7 @@ not_there_is_dull p l h = rw (is_none (find p l) h)
 module _ (p : Entry → Bool) (x : Entry) (l : List Entry) where
   pub behind_P_past : p x ≡ false → behind_P p (x ∷ l) ≡ cond (is_kind P x) (is_some (find p l)) (behind_P p l)
   unfolding behind_P find
-  behind_P_past h = split (is_kind P x) (λ y. rw (y, h) (bool.and_true (is_some (find p l)))) (λ n. rw (n, h))
+  behind_P_past h = split (is_kind P x) (λ y. rw (y, h) (bool.and-true (is_some (find p l)))) (λ n. rw (n, h))
 
   pub behind_P_here : p x ≡ true → behind_P p (x ∷ l) ≡ false
   unfolding behind_P find
