@@ -40,12 +40,26 @@ data Ends (j : ℕ) : Stage → Type 0 where
   asks : (b : Bool) → Ends j (asked j b)
   answers : Ends j (answered j)
 
+-- the event's own name, and the one that moves, are told apart where the event is matched
+module _ {T : Table} {w : List Chan} {k : ℕ} {t : Transaction} where
+  commits_there : (N : Chan) (u : Transaction) {h i : Stage} → Moves T w k t h (Commit N u) i → (j : ℕ) × (N ≡ nth w j) × Ends j h
+  commits_there _ _ (commits _ j p) = (j, p, asks false)
+
+  latches_there : (N : Chan) (u : Transaction) {h i : Stage} → Moves T w k t h (Latch N u) i → (j : ℕ) × (N ≡ nth w j) × Ends j h
+  latches_there _ _ (latches _ j b p l) = (j, p, asks b)
+
+  completes_there : (N : Chan) (u : Transaction) {h i : Stage} → Moves T w k t h (Complete N u) i → (j : ℕ) × (N ≡ nth w j) × Ends j h
+  completes_there _ _ (reaches _ b p) = (k, p, asks b)
+  completes_there _ _ (returns _ j p) = (j, p, answers)
+
+  drops_there : (N : Chan) (u : Transaction) {h i : Stage} → Moves T w k t h (DropRequest N u) i → (j : ℕ) × (N ≡ nth w j) × Ends j h
+  drops_there _ _ (drops_request _ j p) = (suc j, p, asks false)
+
 ends_there : {T : Table} {w : List Chan} {k : ℕ} {t : Transaction} (N : Chan) {h i : Stage} (e : Event) → NamesR N t e → Moves T w k t h e i → (j : ℕ) × (N ≡ nth w j) × Ends j h
-ends_there N _ commit (commits _ j p) = (j, p, asks false)
-ends_there N _ latch (latches _ j b p l) = (j, p, asks b)
-ends_there {k = k} N _ complete (reaches _ b p) = (k, p, asks b)
-ends_there N _ complete (returns _ j p) = (j, p, answers)
-ends_there N _ drop (drops_request _ j p) = (suc j, p, asks false)
+ends_there {t = t} N _ commit m = commits_there N t m
+ends_there {t = t} N _ latch m = latches_there N t m
+ends_there {t = t} N _ complete m = completes_there N t m
+ends_there {t = t} N _ drop m = drops_there N t m
 
 through_same : {X Y : Chan} → Through X ≡ Through Y → X ≡ Y
 through_same e = cc
@@ -186,6 +200,8 @@ module _ (s : Net) (g : Good s) (t : Transaction) (c : Course) (o : OnCourse s t
   -- ---- no R opposite its C
 
   opposite_its_C : (has : has_agent T t.master ≡ true) (N : Chan) {i : Stage} → Fits k i → is_master T N ≡ false → AtR s t a c.write N i → AtC s t a c.write (opposite T N) i → ⊥
+  opposite_its_C has N f m (last j b _ _) y = elim y [ ]
+  opposite_its_C has N f m (before j b i _ _ _) y = elim y [ ]
   opposite_its_C has N f m (behind j zero l e y) (back _ p) = both (is_master T (nth w 0)) has (sym (ap (is_master T) e) ∙ m)
   opposite_its_C has N f m (behind j (suc n) l e y) (back _ p) =
       let q = opposite_once T g.rules.passes t.master a has n j (omega arith) f (ap (opposite T) (sym e) ∙ p) in
