@@ -1,3 +1,2 @@
 -- Laws of records played on a lent state.
 pub mod Answered
-pub mod walked

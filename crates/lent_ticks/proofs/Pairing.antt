@@ -16,12 +16,13 @@ use Rattle.play_ticks.specs.declared.Turn.{Turn}
 use Rattle.play_ticks.specs.declared.Turns.{Turns}
 use Rattle.play_ticks.specs.Turns.{clash_partner, footings}
 use Rattle.play_ticks.specs.contracts.Turns as Turns-is
-use Rattle.walks.proofs.Args.{Shown}
+use denote.Laws.{Is}
+use mir.Val.{Val}
 use Rattle.lent_ticks.specs.Places.{partner_place}
 
 -- every value of the type has a turn for each record
-pub all_there : (s : Turns) → Shown Turns-is.the_row s → length s.all ≡ most_records
-all_there s (vs, is) = search owned
+pub all_there : (s : Turns) (vs : List Val) → Is Turns-is.the_row s vs → length s.all ≡ most_records
+all_there s vs is = search owned
 
 -- a partner stands among those that are looked through
 some_below : (e : Footing) (j : ℕ) (fs : List Footing) (k : ℕ) → clash_partner e j fs ≡ some k → k < j + length fs

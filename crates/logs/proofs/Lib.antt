@@ -4,4 +4,3 @@ pub mod Turning
 pub mod Ticking
 pub mod Running
 pub mod OneResult
-pub mod walked

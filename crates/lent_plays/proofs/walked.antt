@@ -1,3 +1,0 @@
-pub mod PlanIn
-pub mod SettleIn
-pub mod StepIn

@@ -1,4 +1,0 @@
-pub mod ClearChannels
-pub mod EntriesLeftIn
-pub mod IsSoundIn
-pub mod OpenIn
