@@ -12,7 +12,7 @@ use Rattle.chassis.specs.declared.Bus.{Bus}
 use Rattle.chassis.specs.declared.Table.{Table}
 use Rattle.chassis.specs.Numbers.{bus, same_bus}
 use Rattle.chassis.specs.Channels.{first_bus, second_bus}
-use Rattle.chassis.specs.Ways.{Hop, hop, from, to, Onward, Way, OneWay, ExactlyOneWay}
+use Rattle.chassis.specs.Ways.{Hop, hop, Onward, Way, OneWay, ExactlyOneWay}
 use Rattle.chassis.specs.Routes.{component, closes_a_loop, loop_free, all_joined, one_way, way_over, way}
 use Rattle.chassis.proofs.Buses.{same_yes, yes_same, no_same, same?}
 use Rattle.chassis.proofs.Components.{Joined, within, across, joined, stays, lift, join, onward}

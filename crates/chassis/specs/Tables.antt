@@ -1,6 +1,5 @@
 -- Grounds 23 to 27 of a table, in their order.
 use Rattle.std.specs.Prelude.{ℕ, Bool, false, not, ◌&&◌, ◌||◌, List, [], ◌∷◌, take, drop, replicate, leb, eqb}
-use Rattle.std.proofs.Math.Option.{some}
 use Rattle.base.specs.Lists.{all, any, is_some}
 use Rattle.base.specs.Grounds.{Ground, ◌when◌, refusal}
 use Rattle.chassis.specs.declared.Bus.{Bus}

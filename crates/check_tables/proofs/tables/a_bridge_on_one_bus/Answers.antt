@@ -1,0 +1,30 @@
+-- A bridge has one bus at both its ends.
+-- What is left to ask, asked from here, is the whole: the loop of proofs/Loops.antt in base.
+use mathlib.Core.Path.{◌≡◌}
+use native.Mathlib.Omega.{arith}
+use borrow.Author.Rules.{rules}
+use lib.ListN.{length}
+use Rattle.base.proofs.Cases.{cases}
+use Rattle.base.proofs.Walks.{owned}
+use Rattle.base.proofs.Loops.{any_left, stops, goes_on, ends}
+use Rattle.chassis.specs.Channels.{no_bridge}
+use Rattle.chassis.specs.Tables.{is_on_one_bus, a_bridge_on_one_bus}
+use Rattle.chassis.proofs.Counts.{counts}
+use Rattle.check_tables.proofs.tables.a_bridge_on_one_bus.Goals as goal
+
+pub loop-i-init : goal.loop-i-init
+loop-i-init c =
+    let t = c.args.t in
+    let long : length t.pairs ≡ 15 = search owned in
+    any_left is_on_one_bus t.pairs t.bridges 0 (omega (arith, counts t c.requires))
+
+pub returns-then-is_on_one_bus : goal.returns-then-is_on_one_bus
+unfolding a_bridge_on_one_bus
+returns-then-is_on_one_bus c = stops no_bridge c.loop-i.invariant (search rules) (search cases)
+
+pub loop-i-preserved : goal.loop-i-preserved
+loop-i-preserved c = goes_on no_bridge c.loop-i.invariant (search rules) (search cases)
+
+pub returns : goal.returns
+unfolding a_bridge_on_one_bus
+returns c = ends c.loop-i.invariant (search rules)
