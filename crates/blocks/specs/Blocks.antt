@@ -1,5 +1,5 @@
 -- A block's bytes, its check, its grounds in order, the table and the records that it holds.
-use Rattle.std.specs.Prelude.{ℕ, zero, suc, ◌+◌, ◌*◌, Bool, cond, not, ◌&&◌, ◌||◌, List, [], ◌∷◌, map, length, take, drop, get_or, leb, eqb}
+use Rattle.std.specs.Prelude.{ℕ, suc, ◌+◌, ◌*◌, Bool, cond, not, ◌&&◌, ◌||◌, List, [], ◌∷◌, map, length, take, drop, get_or, leb, eqb}
 use Rattle.std.proofs.Math.Seq.{slice}
 use Rattle.base.specs.Lists.{all, parts}
 use Rattle.base.specs.Grounds.{Ground, ◌when◌}

@@ -16,7 +16,7 @@ use Rattle.chassis.specs.declared.Table.{Table}
 use Rattle.chassis.specs.Numbers.{bus, same_bus}
 use Rattle.chassis.specs.Channels.{first_bus, second_bus}
 use Rattle.chassis.specs.Ways.{Hop, hop, from, to}
-use Rattle.chassis.specs.Routes.{component, way_over, way, channel_of, first_place}
+use Rattle.chassis.specs.Routes.{component, way_over, channel_of, first_place}
 use Rattle.chassis.specs.Tables.{table_passes}
 use Rattle.chassis.proofs.Buses.{same_yes, no_same, yes_same}
 use Rattle.chassis.proofs.Numbering.{few}

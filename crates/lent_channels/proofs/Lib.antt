@@ -1,2 +1,4 @@
--- Laws of a lent channel: what lies where, one walk for all looks, and what the work of a change makes.
+-- Laws of a lent channel: one turn of a look for all of them, what each look tells, and what the work of a change makes.
+pub mod Folding
+pub mod Looked
 pub mod Worked

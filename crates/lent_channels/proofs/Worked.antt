@@ -1,12 +1,13 @@
 -- The work of a change is that change of the channel, for any channel that has its places.
 -- To move the entries behind a gap up by one place and to store a zero entry at the last one is to close the gap.
 use mathlib.Core.Path.{◌≡◌, refl, sym, ◌∙◌}
+use mathlib.Core.Bool.{true}
 use mathlib.Core.List.{List}
 use Prim.Native.Nat.{ℕ, zero, suc, ◌+◌, ◌-◌, ◌≤◌, ◌<◌}
 use native.Mathlib.Omega.{arith}
 use native.Mathlib.Numerals.{add-one}
 use borrow.Author.Tests.{ltb-true}
-use lib.Dec.{T as Holds, ltb}
+use lib.Dec.{ltb}
 use lib.ListN.{length, get_or, set, length-set}
 use lib.Seq.{set-get_or}
 use Rattle.base.proofs.Logic.{split as by_bool}
@@ -23,7 +24,7 @@ use Rattle.queue.specs.Packing.{channel_places}
 use Rattle.queue.specs.code.Methods.{place_of, place_of_matching, added_to, removed_at, marked_at, at_place, changed_to}
 use Rattle.queue.proofs.Placed.{place_bound}
 use Rattle.lent_channels.specs.declared.Work.{Work}
-use Rattle.lent_channels.specs.Working.{last_place, is_nothing, place_for, idle, add, take_out, mark, work_of, moved, moved_over, reworked}
+use Rattle.lent_channels.specs.Working.{last_place, is_nothing, place_for, idle, add, take_out, mark, work_of, moved, moved_over, stored, reworked}
 
 pub channel_path : {e e' : List Entry} {n n' : ℕ} → e ≡ e' → n ≡ n' → ◌≡◌ {A = Channel} (record { entries = e; count = n }) (record { entries = e'; count = n' })
 channel_path p q = λ i. record { entries = p i; count = q i }
@@ -43,6 +44,14 @@ pub no_more_moves : (g : ℕ) (l : List Entry) → last_place ≤ g → l ≡ mo
 unfolding moved
 no_more_moves g l h = let e : last_place - g ≡ 0 = omega arith in rw e refl
 
+-- and what is stored after it
+pub redone : (c : Channel) (w : Work) (g : ℕ) (l : List Entry) {at n : ℕ} {y : Entry} → last_place ≤ g → moved_over g l ≡ moved_over w.gap c.entries
+    → at ≡ w.at → y ≡ stored w (get_or l at zero_entry) → n ≡ w.count → ◌≡◌ {A = Channel} (record { entries = set l at y; count = n }) (reworked c w)
+redone c w g l {at = at} {n = n} {y = y} h e p q r =
+    let m : l ≡ moved_over w.gap c.entries = no_more_moves g l h ∙ e in
+    let y' : y ≡ stored w (get_or (moved_over w.gap c.entries) w.at zero_entry) = q ∙ rw (m, p) in
+    channel_path (rw (m, p, y')) r
+
 -- ---- where a change's entry is found, it is found at a place
 
 abbrev Inside : Found → Type 0
@@ -59,13 +68,13 @@ module _ (c : Channel) (long : length c.entries ≡ channel_places) where
 
 -- ---- where nothing changes
 
-pub left_alone : (c : Channel) (ch : Change) → Holds (is_nothing ch) → changed_to c ch ≡ c
+pub left_alone : (c : Channel) (ch : Change) → is_nothing ch ≡ true → changed_to c ch ≡ c
 unfolding changed_to
 left_alone c Nothing h = refl
-left_alone c (Add x) h = absurd h
-left_alone c (TakeOut x) h = absurd h
-left_alone c (TakeMatching r) h = absurd h
-left_alone c (Mark x) h = absurd h
+left_alone c (Add x) h = absurd (cc)
+left_alone c (TakeOut x) h = absurd (cc)
+left_alone c (TakeMatching r) h = absurd (cc)
+left_alone c (Mark x) h = absurd (cc)
 
 -- ---- the work of each change
 

@@ -271,6 +271,8 @@ pub fn change_in(c: &mut Channel, ch: Change)
     if is_nothing(ch) {
         return;
     }
+    // A proof knows how long an array behind a reference is where one of its elements is read.
+    let first = c.entries[0];
     let f = place_in(&*c, ch);
     let n = c.count;
     let w = work_of(ch, f, n);

@@ -1,6 +1,6 @@
 // What a lent channel shows. Each look is a loop of the same form over its entries, with covered steps: where it starts,
-// how far it goes, what an entry makes of it, when it is done and what it tells. The loop is walked once for all of them
-// (proofs/Folding.antt).
+// how far it goes, what an entry makes of it, when it is done and what it tells. A turn of the loop is proved once for
+// all of them (proofs/Folding.antt).
 ghost use Rattle.std.specs.Prelude.{◌≡◌, false};
 ghost use Rattle.queue.specs.Packing.{live};
 ghost use Rattle.lent_channels.specs.Looks.{look_asked, filling_asked, first_asked};

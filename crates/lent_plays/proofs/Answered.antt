@@ -19,14 +19,14 @@ use Rattle.queue.specs.declared.Transaction.{Transaction}
 use Rattle.queue.specs.declared.Entry.{Entry}
 use Rattle.queue.specs.declared.Look.{Look}
 use Rattle.queue.specs.Entries.{R, C}
-use Rattle.queue.specs.Queues.{filling, has_matching}
+use Rattle.queue.specs.Queues.{has_matching}
 use Rattle.queue.specs.Packing.{live}
 use Rattle.queue.specs.code.Changes.{look_by, look_of, match_of, dull}
 use Rattle.queue.proofs.Matching.{matches_its_name}
 use Rattle.lent_channels.specs.Looks.{look_asked, filling_asked, first_asked}
 use Rattle.network.specs.declared.State.{State}
 use Rattle.network.specs.Nets.{view}
-use Rattle.network.specs.code.Acts.{channel_at, acted_on, counted}
+use Rattle.network.specs.code.Acts.{channel_at, acted_on}
 use Rattle.events.specs.declared.Decoded.{Decoded}
 use Rattle.events.specs.declared.Decoded.TheVariants.{Known, Unfit}
 use Rattle.events.specs.Grounds.{grounds}
@@ -47,7 +47,7 @@ use Rattle.play_events.specs.declared.Notice.{Notice}
 use Rattle.play_events.specs.Notices.{look_told, Aimed, beside, notice, told_plan}
 use Rattle.play_events.proofs.Reading.{Framed, framed, Planned, planned}
 use Rattle.play_events.proofs.Carried.{accepted_number, stored}
-use Rattle.lent_plays.specs.Asks.{seeking, sought_for, asks_for, asks, told_so, plan_seen, InPlace, Stored, settled}
+use Rattle.lent_plays.specs.Asks.{seeking, sought_for, asks_for, told_so, plan_seen, InPlace, Stored, settled}
 
 -- ---- the sight that the answers make, against the one that a judge is told
 

@@ -1,2 +1,3 @@
 -- Laws of records played on a lent state.
 pub mod Answered
+pub mod Stepped

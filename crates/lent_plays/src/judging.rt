@@ -1,4 +1,4 @@
-// A record's plan, read off a lent state: channels are looked at where they lie, and only as far as the record's kind asks. Walked by hand.
+// A record's plan, read off a lent state: channels are looked at where they lie, and only as far as the record's kind asks.
 ghost use Rattle.std.specs.Prelude.{◌≡◌};
 ghost use Rattle.lent_plays.specs.Asks.{InPlace, plan_seen};
 

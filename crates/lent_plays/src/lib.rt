@@ -2,6 +2,7 @@
 
 #![tactic(auto)]
 
+pub mod shapes; // shapes.rt: what the type of a lent state says of its arrays
 pub mod questions; // questions.rt: what a record asks of which channel
 pub mod judging; // judging.rt: a record's plan, read off a lent state
 pub mod settling; // settling.rt: a plan carried out where the state lies

@@ -1,4 +1,4 @@
-// A plan carried out where the state lies. Walked by hand.
+// A plan carried out where the state lies.
 ghost use Rattle.std.specs.Prelude.{◌≡◌, cond, not, eqb};
 ghost use Rattle.lent_plays.specs.Asks.{Stored, settled};
 

@@ -1,4 +1,4 @@
-// A single step on a lent state, whatever the state and however many bytes are handed in. Walked by hand.
+// A single step on a lent state, whatever the state and however many bytes are handed in.
 ghost use Rattle.std.specs.Prelude.{◌≡◌, true, not, eqb};
 ghost use Rattle.chassis.specs.Channels.{has_chan};
 ghost use Rattle.chassis.specs.Tables.{table_passes};
@@ -12,6 +12,7 @@ use crate::Handed;
 use crate::judging::plan_in;
 use crate::questions::{at_of, beside, master_of, sought_for};
 use crate::settling::settle_in;
+use crate::shapes::shape_in;
 use chassis::{NextPlace, Table};
 use events::records::decode;
 use events::{Answer, Decoded};
@@ -108,6 +109,7 @@ pub fn step_in(s: &mut State, b: &[u8]) -> Answer
     if unfit {
         return refused_with(ground);
     }
+    shape_in(s);
     let t = table_in(s);
     let d = record_of(x);
     let f = record_frame(t, d);

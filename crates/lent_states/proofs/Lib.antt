@@ -1,2 +1,3 @@
--- Laws of a lent state: what lies where, and one walk for each form of function that reaches into it.
+-- Laws of a lent state: the entries in its channels, and what is written over it.
 pub mod Held
+pub mod Opened

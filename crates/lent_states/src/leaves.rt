@@ -1,4 +1,4 @@
-// One place of a lent state read, or changed: the only functions that reach into it. Walked by hand.
+// One place of a lent state read, or changed.
 ghost use Rattle.std.specs.Prelude.{◌≡◌, ◌<◌, get_or};
 ghost use Rattle.chassis.specs.Capacities.{most_agents, most_channels};
 ghost use Rattle.network.specs.code.Acts.{channel_at, counted};

@@ -23,6 +23,8 @@ pub fn entries_left_in(s: &State) -> u32
     requires { sound s.now ≡ true }
     ensures { result ≡ held s.now.channels }
 {
+    // A proof knows how many channels there are where one of them is read.
+    let first = s.channels[0].count;
     let mut sum: u32 = 0;
     let mut i: usize = 0;
     while i < MOST_CHANNELS {

@@ -30,6 +30,8 @@ fn no_counts() -> [u16; MOST_AGENTS]
 fn clear_channels(s: &mut State)
     ensures { s.new ≡ with_channels s.old (replicate most_channels zero_channel) }
 {
+    // A proof knows how many channels there are where one of them is read.
+    let first = s.channels[0].count;
     let none = Channel::empty();
     let mut i: usize = 0;
     while i < MOST_CHANNELS {

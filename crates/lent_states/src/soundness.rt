@@ -35,6 +35,8 @@ fn is_unsound(t: Table, ways: [u8; 256], begins: [u16; MOST_AGENTS], n: Chan, c:
 pub fn is_sound_in(s: &State) -> bool
     ensures { result ≡ sound s.now }
 {
+    // A proof knows how many channels there are where one of them is read.
+    let first = s.channels[0].count;
     let t = table_in(s);
     if is_refused(t) {
         return false;

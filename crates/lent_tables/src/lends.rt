@@ -16,7 +16,7 @@ fn at_most(n: usize, most: usize) -> usize
     n
 }
 
-// The two that lend are walked by hand, and ask that there are so many; those above them are covered, and ask nothing.
+// The two that lend ask that there are so many; those above them ask nothing.
 fn lend(m: Numbers, gs: [Bridge; 16], hs: [Bus; 33], n: usize, k: usize) -> TableAnswer
     requires { (n ≤ 16) × (k ≤ 33) }
     ensures { result ≡ lent_answer m (take n gs) (take k hs) }

@@ -1,4 +1,4 @@
-// The lent lists: thin functions, walked by hand, which gather what is lent and ask the covered ones.
+// The lent lists: thin functions which gather what is lent and ask those that take a table by value.
 
 ghost use Rattle.std.specs.Prelude.{◌≡◌};
 ghost use Rattle.lent_tables.specs.Lists.{lent_answer, joined_of};

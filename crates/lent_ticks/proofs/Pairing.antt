@@ -1,4 +1,4 @@
--- What is known of lent turns, and what the place of a partner tells of the search for it.
+-- What the place of a partner tells of the search for it.
 use Prim.Native.Nat.{ℕ, suc, ◌+◌, ◌<◌, ◌≤◌}
 use mathlib.Core.Path.{◌≡◌, sym, ap, ◌∙◌}
 use mathlib.Core.List.{List, [], ◌∷◌}
@@ -6,23 +6,13 @@ use mathlib.Core.Option.{Option, none, some, get_or, some-injective, none-ne-som
 use native.Mathlib.Omega.{arith}
 use lib.ListN.{length, take, drop, length-take, length-drop, length-map}
 use Rattle.base.proofs.Logic.{split, there}
-use Rattle.base.proofs.Walks.{owned}
-use Rattle.chassis.specs.Capacities.{most_records}
 use Rattle.ticks.specs.Footings.{Footing}
 use Rattle.ticks.specs.Conflicts.{clash}
 use Rattle.compare_events.specs.declared.Foot.{Foot}
 use Rattle.compare_events.specs.Feet.{footing_of}
 use Rattle.play_ticks.specs.declared.Turn.{Turn}
-use Rattle.play_ticks.specs.declared.Turns.{Turns}
 use Rattle.play_ticks.specs.Turns.{clash_partner, footings}
-use Rattle.play_ticks.specs.contracts.Turns as Turns-is
-use denote.Laws.{Is}
-use mir.Val.{Val}
 use Rattle.lent_ticks.specs.Places.{partner_place}
-
--- every value of the type has a turn for each record
-pub all_there : (s : Turns) (vs : List Val) → Is Turns-is.the_row s vs → length s.all ≡ most_records
-all_there s vs is = search owned
 
 -- a partner stands among those that are looked through
 some_below : (e : Footing) (j : ℕ) (fs : List Footing) (k : ℕ) → clash_partner e j fs ≡ some k → k < j + length fs

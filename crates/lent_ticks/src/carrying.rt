@@ -1,10 +1,10 @@
-// Turns carried out one after the other where the state lies. The loop is walked by hand.
+// Turns carried out one after the other where the state lies.
 ghost use Rattle.std.specs.Prelude.{◌≡◌, ◌++◌, ℕ, ◌<◌, ◌≤◌, length, get_or, set, take, drop};
 ghost use Rattle.chassis.specs.Capacities.{most_records};
 ghost use Rattle.play_ticks.specs.Turns.{no_turn, all_turned, turn_values};
 ghost use Rattle.lent_ticks.specs.Ready.{Ready};
 
-use crate::leaves::turn_at;
+use crate::leaves::{places_in, turn_at};
 use chassis::Agent;
 use judge_events::Plan;
 use lent_plays::settling::settle_in;
@@ -41,6 +41,7 @@ pub fn carry_in(s: &mut State, turns: &Turns, answers: &mut [u16], n: usize)
     requires { (n ≤ most_records) × (n ≤ length answers.old) × ((i : ℕ) → i < n → Ready (get_or turns.now.all i no_turn)) }
     ensures { (s.new ≡ all_turned s.old (take n turns.now.all)) × (answers.new ≡ turn_values (take n turns.now.all) ++ drop n answers.old) }
 {
+    places_in(turns);
     let mut i: usize = 0;
     while i < n {
         let x = turn_at(turns, i);

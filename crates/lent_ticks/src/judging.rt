@@ -1,4 +1,4 @@
-// The records of a tick judged, each against one lent state, in which nothing is stored. The loop is walked by hand.
+// The records of a tick judged, each against one lent state, in which nothing is stored.
 ghost use Rattle.std.specs.Prelude.{◌≡◌, true, ◌/◌, ◌<◌, ◌≤◌, length};
 ghost use Rattle.chassis.specs.Capacities.{most_record_bytes, most_records};
 ghost use Rattle.chassis.specs.Channels.{has_chan};
@@ -13,7 +13,7 @@ ghost use Rattle.compare_events.specs.Feet.{foot};
 ghost use Rattle.play_events.specs.Notices.{Aimed};
 ghost use Rattle.play_ticks.specs.Turns.{turns_made, laid_over, judged_answer};
 
-use crate::leaves::put_turn;
+use crate::leaves::{places_in, put_turn};
 use crate::pairs::first_pair_in;
 use chassis::{NextPlace, Table};
 use compare_events::feet::foot_of;
@@ -22,6 +22,7 @@ use judge_events::Plan;
 use lent_plays::judging::plan_in;
 use lent_plays::questions::{at_of, beside, sought_for};
 use lent_plays::settling::is_refused;
+use lent_plays::shapes::shape_in;
 use lent_states::channels::look_at;
 use lent_states::leaves::table_in;
 use network::State;
@@ -78,6 +79,8 @@ pub fn judge_all_in(s: &State, hops: &[u8; 256], r: &[u8], turns: &mut Turns) ->
     requires { (sound s.now ≡ true) × (hops.now ≡ hops_of s.now.table) × (length r.now ≤ most_record_bytes) }
     ensures { (result ≡ judged_answer (view s.now) (records r.now)) × (turns.new.all ≡ laid_over (turns_made (view s.now) (records r.now)) turns.old.all) }
 {
+    shape_in(s);
+    places_in(turns);
     let t = table_in(s);
     let many = many_in(r);
     let mut i: usize = 0;

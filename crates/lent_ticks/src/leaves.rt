@@ -1,5 +1,5 @@
-// One place of lent turns read, or stored to: the only functions that reach into them. Walked by hand.
-ghost use Rattle.std.specs.Prelude.{◌≡◌, ◌<◌, get_or, set};
+// One place of lent turns read, or stored to: the only functions that reach into them.
+ghost use Rattle.std.specs.Prelude.{◌≡◌, ◌<◌, get_or, length, set};
 ghost use Rattle.chassis.specs.Capacities.{most_records};
 ghost use Rattle.play_ticks.specs.Turns.{no_turn};
 
@@ -19,4 +19,11 @@ pub fn put_turn(turns: &mut Turns, n: usize, x: Turn)
 {
     let i = n;
     turns.all[i] = x;
+}
+
+// There is a place for each record: the type says so. A proof has it where a place is read.
+pub fn places_in(turns: &Turns)
+    ensures { length turns.now.all ≡ most_records }
+{
+    let _first = turns.all[0].plan.refusal;
 }

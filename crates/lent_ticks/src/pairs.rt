@@ -1,10 +1,10 @@
-// The lowest first record of a conflicting pair and its lowest partner, among lent turns. The loops are walked by hand.
+// The lowest first record of a conflicting pair and its lowest partner, among lent turns.
 ghost use Rattle.std.specs.Prelude.{◌≡◌, ◌+◌, ◌<◌, ◌≤◌, ltb, get_or, take};
 ghost use Rattle.chassis.specs.Capacities.{most_records};
 ghost use Rattle.play_ticks.specs.Turns.{no_turn, answer_by, clash_pair, footings};
 ghost use Rattle.lent_ticks.specs.Places.{partner_place};
 
-use crate::leaves::turn_at;
+use crate::leaves::{places_in, turn_at};
 use compare_events::Foot;
 use compare_events::feet::clashes;
 use play_ticks::{Turn, Turns};
@@ -29,6 +29,7 @@ pub fn clash_from(turns: &Turns, e: Foot, j: usize, n: usize) -> usize
     requires { (j ≤ n) × (n ≤ most_records) }
     ensures { result ≡ partner_place turns.now.all e j n }
 {
+    places_in(turns);
     let mut i = j;
     while i < n {
         let f = foot_at(turns, i);
@@ -74,6 +75,7 @@ pub fn first_pair_in(turns: &Turns, n: usize) -> TickAnswer
     requires { n ≤ most_records }
     ensures { result ≡ answer_by (clash_pair 0 (footings (take n turns.now.all))) }
 {
+    places_in(turns);
     let mut i: usize = 0;
     while i < n {
         let e = foot_at(turns, i);

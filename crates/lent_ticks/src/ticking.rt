@@ -1,4 +1,4 @@
-// The tick on a lent state, whatever the state, the bytes and the answer list. Walked by hand.
+// The tick on a lent state, whatever the state, the bytes and the answer list.
 ghost use Rattle.std.specs.Prelude.{◌≡◌, length, replicate};
 ghost use Rattle.chassis.specs.Capacities.{most_records};
 ghost use Rattle.ticks.specs.Ticks.{tick};
@@ -9,6 +9,7 @@ use crate::carrying::carry_in;
 use crate::judging::{judge_all_in, many_in};
 use chassis::{MOST_RECORD_BYTES, MOST_RECORDS};
 use find_routes::hops::hops;
+use lent_plays::shapes::shape_in;
 use lent_plays::stepping::is_ground;
 use lent_states::leaves::table_in;
 use lent_states::soundness::is_sound_in;
@@ -66,6 +67,7 @@ pub fn tick_in(s: &mut State, r: &[u8], answers: &mut [u16]) -> TickAnswer
     if unfit {
         return refused_with(ground);
     }
+    shape_in(s);
     let t = table_in(s);
     let ways = hops(t);
     let mut turns = no_turns();

@@ -37,7 +37,7 @@ use Rattle.blocks.specs.declared.BlockAnswer.TheVariants.{Refused, Network, Step
 use Rattle.blocks.specs.Blocks.{block_kind, block_place, record_count, record_bytes, bridge_records, table_of, stray_in_table, kind_place_count_are_right, content_grounds, block_grounds}
 use Rattle.blocks.specs.Answers.{accepted_as, block_answer}
 use Rattle.logs.specs.code.Runs.{run_lines, run_state, goes_on}
-use Rattle.logs.specs.Logs.{steps, entries_left, block_played}
+use Rattle.logs.specs.Logs.{entries_left, block_played}
 use Rattle.blocks.proofs.Accepted.{Accepted, accepted_block, accepted_length, accepted_count, frame_is_right}
 use Rattle.logs.proofs.Stepping.{block_stepped}
 use Rattle.logs.proofs.Ticking.{tick_fits}

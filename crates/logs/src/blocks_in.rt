@@ -17,6 +17,7 @@ use judge_events::Plan;
 use lent_plays::judging::plan_in;
 use lent_plays::questions::{at_of, master_of, notice_by, sought_for};
 use lent_plays::settling::settle_in;
+use lent_plays::shapes::shape_in;
 use lent_states::channels::look_at;
 use lent_states::leaves::table_in;
 use lines::lines::put_e;
@@ -61,7 +62,7 @@ fn value_of(p: Plan) -> u16
     p.value
 }
 
-// The records of a block, one by one, and their `e` lines from `at` on. An accepted block states its own place in two bytes. Walked by hand.
+// The records of a block, one by one, and their `e` lines from `at` on. An accepted block states its own place in two bytes.
 pub fn play_steps_in(
     s: &mut State,
     hops: &[u8; 256],
@@ -73,6 +74,7 @@ pub fn play_steps_in(
     requires { (sound s.old ≡ true) × (hops.now ≡ hops_of s.old.table) × (length b.now ≡ 512) × (record_count b.now ≤ most_records) × (at + 2520 ≤ length out.old) × (place < 65536) }
     ensures { (s.new ≡ (steps place 0 s.old (block_records b.now)).state) × Written out.old at (texts (steps place 0 s.old (block_records b.now)).lines) out.new result × (result ≤ at + 2560) }
 {
+    shape_in(s);
     let t = table_in(s);
     let n = count_of(b);
     let mut end = at;

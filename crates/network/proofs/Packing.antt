@@ -6,7 +6,7 @@ use mathlib.Core.Bool.{Bool, true, false, ◌&&◌, ◌||◌}
 use mathlib.Core.List.{List, [], map}
 use native.Mathlib.Omega.{arith}
 use borrow.Author.Tests.{eqb-true, eq-eqb, leb-true, le-leb}
-use lib.ListN.{get_or, length, drop, replicate}
+use lib.ListN.{get_or, length, drop}
 use lib.Dec.{leb, ltb, eqb}
 use Rattle.base.specs.Lists.{all, all_from}
 use Rattle.base.proofs.Logic.{split, and_true, true_and}
