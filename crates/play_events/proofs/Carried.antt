@@ -1,7 +1,7 @@
 -- On a sound state a record's plan carried out is its step, with the step's own number and value.
 use Prim.Native.Nat.{ℕ, ◌+◌}
 use mathlib.Core.Path.{◌≡◌, refl, ap, sym, subst, ◌∙◌}
-use mathlib.Core.Bool.{true, false, cond}
+use mathlib.Core.Bool.{true, cond}
 use mathlib.Core.List.{List, []}
 use Rattle.base.specs.Grounds.{refusal}
 use lib.ListN.{get_or, set}
@@ -10,7 +10,6 @@ use Rattle.base.proofs.Lists.{is_there}
 use Rattle.base.proofs.Cells.{find_in}
 use Rattle.chassis.specs.declared.Agent.{Agent}
 use Rattle.chassis.specs.declared.Chan.{Chan}
-use Rattle.chassis.specs.Numbers.{agent}
 use Rattle.chassis.specs.Channels.{has_agent}
 use Rattle.chassis.specs.Tables.{table_passes}
 use Rattle.queue.specs.declared.Transaction.{Transaction}

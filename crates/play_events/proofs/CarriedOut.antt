@@ -4,14 +4,13 @@ use Prim.Native.Nat.{ℕ, zero, suc, ◌+◌, ◌≤◌}
 use mathlib.Core.Path.{◌≡◌, refl, ap, sym, subst, ◌∙◌}
 use mathlib.Core.Bool.{Bool, true, false, cond, ◌&&◌}
 use mathlib.Core.List.{List, [], ◌∷◌, ◌++◌}
-use mathlib.Core.Option.{none}
 use native.Mathlib.Omega.{arith}
 use native.Mathlib.Nat.{le_trans}
 use borrow.Author.Tests.{ltb-true, ltb-false, not-false}
 use lib.Dec.{ltb}
 use lib.ListN.{length, get_or, set, get_or-eq_default}
 use Rattle.base.specs.Lists.{modify}
-use Rattle.base.specs.Grounds.{Ground, refusal}
+use Rattle.base.specs.Grounds.{Ground}
 use Rattle.base.proofs.Logic.{split, and_true}
 use Rattle.base.proofs.Grounds.{Clear, clear}
 use Rattle.base.proofs.Cells.{modify_every, modify_here}
@@ -21,7 +20,7 @@ use Rattle.chassis.specs.declared.Table.{Table}
 use Rattle.chassis.specs.declared.NextPlace.{NextPlace}
 use Rattle.chassis.specs.declared.NextPlace.TheVariants.{Target, Through}
 use Rattle.chassis.specs.Channels.{has_agent, has_chan, is_master, master_channel, opposite}
-use Rattle.chassis.specs.Numbers.{agent, chan}
+use Rattle.chassis.specs.Numbers.{chan}
 use Rattle.queue.specs.declared.Transaction.{Transaction}
 use Rattle.queue.specs.declared.Entry.{Entry}
 use Rattle.queue.specs.declared.Change.TheVariants.{Nothing, Add, TakeOut, Mark}

@@ -4,7 +4,7 @@ use native.Mathlib.Omega.{arith}
 use borrow.Author.Tests.{ltb-true, lt-ltb}
 use mathlib.Core.Path.{◌≡◌, refl, ap, sym, subst, ◌∙◌}
 use mathlib.Core.Bool.{Bool, true, false, cond}
-use mathlib.Core.List.{List, [], map}
+use mathlib.Core.List.{[]}
 use lib.ListN.{get_or, get_or-map}
 use Rattle.base.proofs.Logic.{split}
 use Rattle.chassis.specs.declared.Agent.{Agent}
@@ -12,7 +12,7 @@ use Rattle.chassis.specs.declared.Chan.{Chan}
 use Rattle.chassis.specs.declared.Table.{Table}
 use Rattle.chassis.specs.declared.NextPlace.{NextPlace}
 use Rattle.chassis.specs.declared.NextPlace.TheVariants.{Target, Through}
-use Rattle.chassis.specs.Numbers.{agent, same_agent}
+use Rattle.chassis.specs.Numbers.{same_agent}
 use Rattle.chassis.specs.Channels.{has_agent, has_chan, chan_count, is_master, master_channel}
 use Rattle.chassis.specs.Tables.{table_passes}
 use Rattle.chassis.proofs.Counts.{counts}
@@ -25,7 +25,7 @@ use Rattle.queue.specs.Queues.{has_matching}
 use Rattle.queue.specs.code.Changes.{look_of, match_of}
 use Rattle.queue.specs.Packing.{live}
 use Rattle.network.specs.declared.State.{State}
-use Rattle.network.specs.Nets.{Net, view, waiting, full}
+use Rattle.network.specs.Nets.{Net, view, waiting}
 use Rattle.network.specs.Rooms.{room_for}
 use Rattle.network.specs.code.Acts.{channel_at}
 use Rattle.events.specs.declared.Event.{Event}

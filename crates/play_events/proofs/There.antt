@@ -1,7 +1,7 @@
 -- Every channel that a record's plan points to is a channel of the table.
 use Prim.Native.Nat.{ℕ}
 use mathlib.Core.Path.{◌≡◌}
-use mathlib.Core.Bool.{Bool, true, false, not, ◌&&◌}
+use mathlib.Core.Bool.{Bool, true, false, ◌&&◌}
 use mathlib.Core.List.{List}
 use native.Mathlib.Omega.{arith}
 use borrow.Author.Tests.{ltb-true, lt-ltb, not-false}
@@ -18,7 +18,6 @@ use Rattle.chassis.specs.Tables.{table_passes}
 use Rattle.chassis.proofs.Counts.{counts}
 use Rattle.chassis.proofs.Passing.{passed}
 use Rattle.chassis.proofs.Hops.{opposing}
-use Rattle.chassis.proofs.OnTheWay.{next}
 use Rattle.queue.specs.declared.Transaction.{Transaction}
 use Rattle.queue.specs.declared.Entry.{Entry}
 use Rattle.queue.specs.Entries.{P, R, C, as_kind}

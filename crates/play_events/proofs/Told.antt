@@ -12,7 +12,7 @@ use Rattle.chassis.specs.declared.Agent.{Agent}
 use Rattle.chassis.specs.declared.Chan.{Chan}
 use Rattle.chassis.specs.declared.Table.{Table}
 use Rattle.chassis.specs.declared.NextPlace.{NextPlace}
-use Rattle.chassis.specs.Numbers.{agent, chan, same_agent}
+use Rattle.chassis.specs.Numbers.{same_agent}
 use Rattle.chassis.specs.Channels.{has_agent, has_chan, master_channel}
 use Rattle.queue.specs.declared.Transaction.{Transaction}
 use Rattle.queue.specs.declared.Look.{Look}
