@@ -1,7 +1,7 @@
 -- From block to block the state stays sound, and the end of an input comes behind a block.
 use Prim.Native.Nat.{ℕ}
 use mathlib.Core.Path.{◌≡◌, refl, sym}
-use mathlib.Core.Bool.{true, false, not}
+use mathlib.Core.Bool.{true, not}
 use mathlib.Core.List.{List}
 use borrow.Author.Tests.{eq-eqb, not-true}
 use lib.ListN.{length}

@@ -15,7 +15,7 @@ use Rattle.network.specs.declared.State.{State}
 use Rattle.network.specs.Opening.{zero_state}
 use Rattle.blocks.specs.Blocks.{block_kind, block_grounds}
 use Rattle.blocks.specs.Answers.{accepted_as, block_answer}
-use Rattle.lines.specs.Lines.{Line, end, texts}
+use Rattle.lines.specs.Lines.{Line, texts}
 use Rattle.logs.specs.Logs.{block_played, blocks_played, cut, input_blocks, run, log}
 use Rattle.logs.specs.code.Runs.{goes_on}
 use Rattle.logs.proofs.Running.{run_is_played}

@@ -6,8 +6,7 @@ use native.Mathlib.Omega.{arith}
 use borrow.Author.Rules.{rules}
 use lib.ListN.{length, take, drop, length-drop, drop_of_length-le}
 use lib.Seq.{take_all, drop-drop}
-use Rattle.run_inputs.proofs.block_end.Statement.{statement}
-use Rattle.run_inputs.proofs.block_end.Tie as tie
+use Rattle.run_inputs.proofs.block_end.Goals as goal
 
 module _ (l : List ℕ) (at : ℕ) (h : at ≤ length l) where
   last-part : length l - at < 512 → (take (length l - at) (drop at l) ≡ take 512 (drop at l)) × (drop (length l) l ≡ drop 512 (drop at l))
@@ -20,23 +19,11 @@ module _ (l : List ℕ) (at : ℕ) (h : at ≤ length l) where
   whole_part : (take (at + 512 - at) (drop at l) ≡ take 512 (drop at l)) × (drop (at + 512) l ≡ drop 512 (drop at l))
   whole_part = let n : at + 512 - at ≡ 512 = omega arith in (rw n, rw drop-drop)
 
-sub-if1 : tie.Need-overflow-sub-if1
-sub-if1 c = search rules
+pub returns-then-input-at-lt512-clause-input_value : goal.returns-then-input-at-lt512-clause-input_value
+returns-then-input-at-lt512-clause-input_value c = let a = c.args in let p = last-part a.input.now a.at (search rules) c.if-input-at-lt512.true in p.0
 
-returns : tie.Need-returns
-returns c =
-    let a = c.before.args in
-    let p = last-part a.input.now a.at (search rules) c.if1.true in
-    (search rules, (p.0, p.1))
+pub returns-then-input-at-lt512-clause-input_value_2 : goal.returns-then-input-at-lt512-clause-input_value_2
+returns-then-input-at-lt512-clause-input_value_2 c = let a = c.args in let p = last-part a.input.now a.at (search rules) c.if-input-at-lt512.true in p.1
 
-add-result : tie.Need-overflow-add-result
-add-result c = search rules
-
-returns-2 : tie.Need-returns-2
-returns-2 c =
-    let a = c.before.args in
-    let p = whole_part a.input.now a.at (search rules) in
-    (search rules, (p.0, p.1))
-
-pub block-end-spec : {M : Type 1} → statement M
-block-end-spec = tie.close (tie.spec sub-if1 returns add-result returns-2)
+pub returns-clause-input_value_2 : goal.returns-clause-input_value_2
+returns-clause-input_value_2 c = let a = c.args in let p = whole_part a.input.now a.at (search rules) in p.1
