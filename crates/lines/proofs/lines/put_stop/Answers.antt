@@ -1,0 +1,24 @@
+-- `put_stop` writes a `stop` line.
+-- The idea: the line is its word and numbers, and no line is longer than the room asked for.
+use native.Mathlib.Omega.{arith}
+use Rattle.lines.specs.Lines.{stop, text}
+use Rattle.lines.proofs.Texts.{line_short}
+use Rattle.base.proofs.Cases.{cases}
+use Rattle.lines.proofs.lines.put_stop.Goals as goal
+
+pub put_line-requires : goal.put_line-requires
+unfolding text
+put_line-requires c =
+    let a = c.args in
+    omega (arith, line_short (stop a.block a.number) (omega arith, omega arith))
+
+pub returns-clause-written : goal.returns-clause-written
+unfolding text
+returns-clause-written c = search cases
+
+pub returns-clause-upper_bound : goal.returns-clause-upper_bound
+unfolding text
+returns-clause-upper_bound c =
+    let w = c.put_line.ensures in
+    let a = c.args in
+    omega (arith, line_short (stop a.block a.number) (omega arith, omega arith), w.behind)
