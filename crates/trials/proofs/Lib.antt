@@ -1,0 +1,2 @@
+-- The statement of the marked trials.
+pub mod MarkedTrials
