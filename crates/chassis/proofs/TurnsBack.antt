@@ -74,7 +74,7 @@ module _ (T : Table) (ok : table_passes T ≡ true) (g : ℕ) (d : Bool) (l : g 
   way_turn : Turns
   way_turn = first_is (way T there b) refl
 
--- the same of a bridge channel X: it leads from the out_bus of its opposite to its own
+-- the same of a bridge channel X: it leads from the out-bus of its opposite to its own
 channel_turn : (T : Table) (ok : table_passes T ≡ true) (X : Chan) → has_chan T X ≡ true → is_master T X ≡ false → (b : Bus) → b.0 < T.buses
     → ((h : Hop) × (channel_of T h ≡ X) × (way T (out_bus T (opposite T X)) b ≡ h ∷ way T (out_bus T X) b))
     ⊎ ((h : Hop) × (channel_of T h ≡ opposite T X) × (way T (out_bus T X) b ≡ h ∷ way T (out_bus T (opposite T X)) b))

@@ -54,7 +54,7 @@ out_bus T N =
     cond (is_master T N) (home T (agent N.0))
     (cond (goes_forth T N) (second_bus T (bridge_of T N)) (first_bus T (bridge_of T N)))
 
--- a master channel has no in_bus
+-- a master channel has no in-bus
 unfoldable pub in_bus : Table → Chan → Option Bus
 in_bus T N =
     cond (is_master T N) none

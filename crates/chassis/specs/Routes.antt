@@ -61,7 +61,7 @@ abbrev pub first_place : Table → List Hop → NextPlace
 first_place T [] = Target
 first_place T (h ∷ hops) = Through (channel_of T h)
 
--- the next place after channel N on the way to agent t: one bridge nearer, or t itself where N's out_bus is t's bus
+-- the next place after channel N on the way to agent t: one bridge nearer, or t itself where N's out-bus is t's bus
 unfoldable pub next_place : Table → Chan → Agent → NextPlace
 next_place T N t = first_place T (way T (out_bus T N) (home T t))
 

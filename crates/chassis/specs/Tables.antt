@@ -66,7 +66,7 @@ table_grounds T stray =
 unfoldable pub table_passes : Table → Bool
 table_passes T = not (is_some (refusal (table_grounds T false)))
 
--- the table of the all_zero state
+-- the table of the all-zero state
 unfoldable pub zero_table : Table
 zero_table = record {
   buses = 0;

@@ -1,5 +1,6 @@
 // A first program over the library. It calls each entry point: `check_arrays`, `open`, `route`, `step`, `tick`. None of
 // them asks anything of its caller, so this program needs no proof by hand. docs/PROGRAMMERS.md says what they answer.
+// A line that cannot be written ends it with that error.
 //
 // The chassis is that of the README: buses 0, 1 and 2 in a row, bridge 0 between the first two and bridge 1 between the
 // last two; agent 0 on bus 0, agent 1 on bus 1, agents 2 and 3 on bus 2. So channels 0 to 3 are the agents' own, 4 and
@@ -15,6 +16,7 @@ use lent_tables::lends::check_arrays;
 use network::{State, open, zero};
 use play_events::steps::step;
 use play_ticks::at_once::tick;
+use std::io;
 use ticks::TickAnswer;
 
 fn bridge(first: Bus, second: Bus) -> Bridge {
@@ -52,92 +54,92 @@ fn named(kind: u8, channel: Chan, master: Agent, number: u16) -> [u8; 8] {
     [kind, channel.0, master.0, 0, low, high, 0, 0]
 }
 
-fn say(text: &[u8]) {
-    let ok = io::write_all(1, text);
+fn say(rt: &impl Print, text: &str) -> io::Result<()> {
+    rt.print(text)
 }
 
-fn say_number(n: u64) {
-    let ok = io::print_decimal(1, n);
+fn say_number(rt: &impl Print, n: u64) -> io::Result<()> {
+    rt.print(n)
 }
 
-fn say_value(v: u16) {
-    say_number(v as u64);
+fn say_value(rt: &impl Print, v: u16) -> io::Result<()> {
+    say_number(rt, v as u64)
 }
 
 // A table passes, or is refused with 23 to 27.
-fn show_table(what: &[u8], a: TableAnswer) {
-    say(what);
+fn show_table(rt: &impl Print, what: &str, a: TableAnswer) -> io::Result<()> {
+    say(rt, what)?;
     match a {
-        TableAnswer::Passed => say_number(0),
-        TableAnswer::Refused(number) => say_number(number as u64),
+        TableAnswer::Passed => say_number(rt, 0)?,
+        TableAnswer::Refused(number) => say_number(rt, number as u64)?,
     }
-    say(b"\n");
+    say(rt, "\n")
 }
 
 // A way goes on through a bridge channel, or has reached the agent's bus.
-fn show_route(what: &[u8], a: RouteAnswer) {
-    say(what);
+fn show_route(rt: &impl Print, what: &str, a: RouteAnswer) -> io::Result<()> {
+    say(rt, what)?;
     match a {
         RouteAnswer::Refused(number) => {
-            say(b"refused, ");
-            say_number(number as u64);
+            say(rt, "refused, ")?;
+            say_number(rt, number as u64)?;
         }
         RouteAnswer::Next(next) => match next {
-            NextPlace::Target => say(b"the agent itself"),
+            NextPlace::Target => say(rt, "the agent itself")?,
             NextPlace::Through(channel) => {
-                say(b"channel ");
-                say_number(channel.0 as u64);
+                say(rt, "channel ")?;
+                say_number(rt, channel.0 as u64)?;
             }
         },
     }
-    say(b"\n");
+    say(rt, "\n")
 }
 
 // A step: 0 and a value, or a number and 0. The state behind it is handed on; after a refusal it is the one handed in.
-fn show_step(what: &[u8], s: State, record: &[u8]) -> State {
+fn show_step(rt: &impl Print, what: &str, s: State, record: &[u8]) -> io::Result<State> {
     let r = step(s, record);
     let a = r.answer;
-    say(what);
-    say(b": refusal ");
+    say(rt, what)?;
+    say(rt, ": refusal ")?;
     match a {
         Answer::Accepted(value) => {
-            say(b"0, value ");
-            say_number(value as u64);
+            say(rt, "0, value ")?;
+            say_number(rt, value as u64)?;
         }
         Answer::Refused(number) => {
-            say_number(number as u64);
-            say(b", value 0");
+            say_number(rt, number as u64)?;
+            say(rt, ", value 0")?;
         }
     }
-    say(b"\n");
-    r.state
+    say(rt, "\n")?;
+    Ok(r.state)
 }
 
 // A tick: accepted as a whole, or one record is refused, or two conflict.
-fn show_tick(what: &[u8], a: TickAnswer) {
-    say(what);
-    say(b": refusal ");
+fn show_tick(rt: &impl Print, what: &str, a: TickAnswer) -> io::Result<()> {
+    say(rt, what)?;
+    say(rt, ": refusal ")?;
     match a {
-        TickAnswer::Accepted => say(b"0, records 0 and 0"),
+        TickAnswer::Accepted => say(rt, "0, records 0 and 0")?,
         TickAnswer::Refused { number, record } => {
-            say_number(number as u64);
-            say(b", records ");
-            say_number(record as u64);
-            say(b" and 0");
+            say_number(rt, number as u64)?;
+            say(rt, ", records ")?;
+            say_number(rt, record as u64)?;
+            say(rt, " and 0")?;
         }
         TickAnswer::Conflict { record, other } => {
-            say(b"15, records ");
-            say_number(record as u64);
-            say(b" and ");
-            say_number(other as u64);
+            say(rt, "15, records ")?;
+            say_number(rt, record as u64)?;
+            say(rt, " and ")?;
+            say_number(rt, other as u64)?;
         }
     }
-    say(b"\n");
+    say(rt, "\n")
 }
 
 // `check`: whoever holds plain lists can have them checked before a table is made of them. `check_arrays` lends it the
 // first so many places of two arrays.
-fn check_lists() {
+fn check_lists(rt: &impl Print) -> io::Result<()> {
     let numbers = Numbers {
         buses: 3,
         limits: [2, 1, 1],
@@ -150,103 +152,109 @@ fn check_lists() {
     homes[2] = Bus(2);
     homes[3] = Bus(2);
     show_table(
-        b"check of the lists: ",
+        rt,
+        "check of the lists: ",
         check_arrays(numbers, bridges, homes, 2, 4),
-    );
+    )?;
     show_table(
-        b"check without bridge 1: ",
+        rt,
+        "check without bridge 1: ",
         check_arrays(numbers, bridges, homes, 1, 4),
-    );
+    )
 }
 
 // `route`: the way from agent 0 to agent 2 begins in channel 0. There is no channel 8.
-fn ask_routes(t: Table) {
+fn ask_routes(rt: &impl Print, t: Table) -> io::Result<()> {
     show_route(
-        b"route from channel 0 to agent 2: ",
+        rt,
+        "route from channel 0 to agent 2: ",
         route(t, Chan(0), Agent(2)),
-    );
+    )?;
     show_route(
-        b"route from channel 4 to agent 2: ",
+        rt,
+        "route from channel 4 to agent 2: ",
         route(t, Chan(4), Agent(2)),
-    );
+    )?;
     show_route(
-        b"route from channel 6 to agent 2: ",
+        rt,
+        "route from channel 6 to agent 2: ",
         route(t, Chan(6), Agent(2)),
-    );
+    )?;
     show_route(
-        b"route from channel 8 to agent 2: ",
+        rt,
+        "route from channel 8 to agent 2: ",
         route(t, Chan(8), Agent(2)),
-    );
+    )
 }
 
 // `step`: a posted write and a read behind it. The read may not go first (9); the write goes over bridge 0.
-fn take_steps(s: State) -> State {
-    let s = show_step(b"begin posted", s, &begin(1, Agent(0), Agent(2)));
-    let s = show_step(b"begin read", s, &begin(2, Agent(0), Agent(2)));
-    let s = show_step(b"latch", s, &named(6, Chan(0), Agent(0), 2));
-    show_step(b"post", s, &named(5, Chan(0), Agent(0), 1))
+fn take_steps(rt: &impl Print, s: State) -> io::Result<State> {
+    let s = show_step(rt, "begin posted", s, &begin(1, Agent(0), Agent(2)))?;
+    let s = show_step(rt, "begin read", s, &begin(2, Agent(0), Agent(2)))?;
+    let s = show_step(rt, "latch", s, &named(6, Chan(0), Agent(0), 2))?;
+    show_step(rt, "post", s, &named(5, Chan(0), Agent(0), 1))
 }
 
 // `tick`: the read follows the write over bridge 0 (a latch of channel 0, master 0, number 2), and agent 1 begins a
 // posted write to agent 2. The values of the two records go to the list that is lent.
-fn take_a_tick(s: State) -> State {
+fn take_a_tick(rt: &impl Print, s: State) -> io::Result<State> {
     let records: [u8; 16] = [6, 0, 0, 0, 2, 0, 0, 0, 1, 0, 1, 2, 0, 0, 0, 0];
     let mut values: [u16; 2] = [0; 2];
     let r = tick(s, &records, &mut values);
     let a = r.answer;
-    show_tick(b"tick of a latch and a begin", a);
-    say(b"values ");
-    say_value(values[0]);
-    say(b" ");
-    say_value(values[1]);
-    say(b"\n");
-    r.state
+    show_tick(rt, "tick of a latch and a begin", a)?;
+    say(rt, "values ")?;
+    say_value(rt, values[0])?;
+    say(rt, " ")?;
+    say_value(rt, values[1])?;
+    say(rt, "\n")?;
+    Ok(r.state)
 }
 
 // A refused tick changes nothing, so its state need not be kept. Two begins of one agent conflict; and the first write
 // is no longer in channel 0.
-fn refuse_ticks(s: State) {
+fn refuse_ticks(rt: &impl Print, s: State) -> io::Result<()> {
     let mut values: [u16; 2] = [0; 2];
     let begins: [u8; 16] = [1, 0, 1, 2, 0, 0, 0, 0, 1, 0, 1, 2, 0, 0, 0, 0];
     let two = tick(s, &begins, &mut values);
     let a = two.answer;
-    show_tick(b"tick of two begins", a);
+    show_tick(rt, "tick of two begins", a)?;
     let wrong: [u8; 16] = [1, 0, 1, 2, 0, 0, 0, 0, 5, 0, 0, 0, 1, 0, 0, 0];
     let refused = tick(s, &wrong, &mut values);
     let a = refused.answer;
-    show_tick(b"tick with a wrong post", a);
+    show_tick(rt, "tick with a wrong post", a)
 }
 
 // A state is plain data and can be looked at: the write and the copy of the read wait in channel 4.
-fn look(s: State) {
+fn look(rt: &impl Print, s: State) -> io::Result<()> {
     let channel = s.channels[4];
-    say(b"entries in channel 4: ");
-    say_number(channel.count as u64);
-    say(b"\n");
+    say(rt, "entries in channel 4: ")?;
+    say_number(rt, channel.count as u64)?;
+    say(rt, "\n")
 }
 
 // What only callers meet: a state that is not sound, record bytes that are not whole, too short a list.
-fn call_wrongly(s: State) {
+fn call_wrongly(rt: &impl Print, s: State) -> io::Result<()> {
     let records: [u8; 16] = [1, 0, 1, 2, 0, 0, 0, 0, 1, 0, 2, 1, 0, 0, 0, 0];
-    let same = show_step(b"step in the all_zero state", zero(), &records[..8]);
-    let same = show_step(b"step of seven bytes", s, &records[..7]);
+    let same = show_step(rt, "step in the all-zero state", zero(), &records[..8])?;
+    let same = show_step(rt, "step of seven bytes", s, &records[..7])?;
     let mut values: [u16; 1] = [0; 1];
     let r = tick(s, &records, &mut values);
     let a = r.answer;
-    show_tick(b"tick with one place for two", a);
+    show_tick(rt, "tick with one place for two", a)
 }
 
 // `open`: the empty network of a table stands beside the answer.
-fn main() {
-    check_lists();
+fn main(rt: HostRuntime) -> io::Result<()> {
+    check_lists(&rt)?;
     let t = chassis();
     let opened = open(t, false);
     let a = opened.answer;
-    show_table(b"open: ", a);
-    ask_routes(t);
-    let s = take_steps(opened.state);
-    let s = take_a_tick(s);
-    refuse_ticks(s);
-    look(s);
-    call_wrongly(s);
+    show_table(&rt, "open: ", a)?;
+    ask_routes(&rt, t)?;
+    let s = take_steps(&rt, opened.state)?;
+    let s = take_a_tick(&rt, s)?;
+    refuse_ticks(&rt, s)?;
+    look(&rt, s)?;
+    call_wrongly(&rt, s)
 }

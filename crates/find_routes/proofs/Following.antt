@@ -1,4 +1,4 @@
--- Following a way: its first place is a channel of the table whose out_bus is one bridge nearer; and what is asked of the
+-- Following a way: its first place is a channel of the table whose out-bus is one bridge nearer; and what is asked of the
 -- way is answered by that channel, or by the way that is left.
 use Prim.Native.Nat.{ℕ, ◌<◌}
 use mathlib.Core.Path.{◌≡◌, refl, ap, subst⁻¹, ◌∙◌}

@@ -13,7 +13,7 @@ use chassis::{Agent, Bus, Chan, NextPlace, RouteAnswer, Table, TableAnswer};
 use check_tables::labels::ladder;
 use check_tables::tables::table_answer;
 
-// "Until the out_bus is t's bus; then the next place is t itself." The hop table is lent, made once for many questions.
+// "Until the out-bus is t's bus; then the next place is t itself." The hop table is lent, made once for many questions.
 pub fn next_by(t: Table, hops: &[u8; 256], n: Chan, a: Agent) -> NextPlace
     requires { (table_passes t ≡ true) × (hops.now ≡ hops_of t) × (has_chan t n ≡ true) × (has_agent t a ≡ true) }
     ensures { result ≡ next_place t n a }

@@ -41,7 +41,7 @@ fn clear_channels(s: &mut State)
     }
 }
 
-// "A refused table gives its number and the all_zero state."
+// "A refused table gives its number and the all-zero state."
 pub fn open_in(s: &mut State, t: Table, stray: bool) -> TableAnswer
     ensures { (s.new ≡ (opened t stray).state) × (result ≡ (opened t stray).answer) }
 {

@@ -1,4 +1,4 @@
--- The all_zero state, which a refused table gives, is not sound: it has no bus.
+-- The all-zero state, which a refused table gives, is not sound: it has no bus.
 use mathlib.Core.Path.{◌≡◌, refl}
 use mathlib.Core.Bool.{false}
 use Rattle.base.specs.Lists.{all}

@@ -11,7 +11,7 @@ use Rattle.network.specs.declared.State.{State}
 use Rattle.network.specs.declared.Opened.{Opened}
 use Rattle.network.specs.Nets.{pack, empty_net}
 
--- the all_zero state, which is not sound
+-- the all-zero state, which is not sound
 unfoldable pub zero_state : State
 zero_state = record { table = zero_table; channels = replicate most_channels zero_channel; begins = replicate most_agents 0 }
 
@@ -19,6 +19,6 @@ abbrev pub state_by : Table → TableAnswer → State
 state_by T Passed = pack (empty_net T)
 state_by T (Refused n) = zero_state
 
--- a refused table gives its number and the all_zero state; `stray` as in `table_grounds`
+-- a refused table gives its number and the all-zero state; `stray` as in `table_grounds`
 unfoldable pub opened : Table → Bool → Opened
 opened T stray = record { answer = table_answer T stray; state = state_by T (table_answer T stray) }

@@ -23,7 +23,7 @@ pub struct State {
     pub begins: [u16; MOST_AGENTS],
 }
 
-// What the table check answered, and beside it the empty network of a table that passed, or the all_zero state.
+// What the table check answered, and beside it the empty network of a table that passed, or the all-zero state.
 #[derive(Clone, Copy)]
 pub struct Opened {
     pub answer: TableAnswer,
@@ -67,14 +67,14 @@ pub fn zero_table() -> Table
     }
 }
 
-// The all_zero state, which is not sound.
+// The all-zero state, which is not sound.
 pub fn zero() -> State
     ensures { result ≡ zero_state }
 {
     empty(zero_table())
 }
 
-// "A refused table gives its number and the all_zero state."
+// "A refused table gives its number and the all-zero state."
 pub fn open(t: Table, stray: bool) -> Opened
     ensures { result ≡ opened t stray }
 {

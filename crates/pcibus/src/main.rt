@@ -3,19 +3,18 @@
 
 #![tactic(auto)]
 
-use play_inputs::{Played, play_input};
+use play_inputs::{Log, Played, play_input};
+use std::io;
+use std::io::{Empty, Stdout};
 
-fn main() {
-    let played = play_input(0, 1, false);
+fn main(rt: HostRuntime) -> io::Result<()> {
+    let mut log: Log<Stdout, Empty> = Log::Written(rt.stdout());
+    let played = play_input(&mut rt.stdin(), &mut log);
     match played {
-        Played::ReadFailed => {
-            let told = io::write_all(2, b"pcibus: the input cannot be read\n");
-        }
-        Played::WriteFailed => {
-            let told = io::write_all(2, b"pcibus: the log cannot be written\n");
-        }
-        Played::Done => {}
-        Played::Differs => {}
-        Played::Cut => {}
+        Played::ReadFailed => eprintln!(rt; "pcibus: the input cannot be read"),
+        Played::WriteFailed => eprintln!(rt; "pcibus: the log cannot be written"),
+        Played::Done => Ok(()),
+        Played::Differs => Ok(()),
+        Played::Cut => Ok(()),
     }
 }

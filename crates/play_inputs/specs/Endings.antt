@@ -1,4 +1,4 @@
--- How playing an input from a descriptor may end, and how many bytes a read brings.
+-- How playing an input may end, and how many bytes a read brings.
 use Rattle.std.specs.Prelude.{ℕ, ◌≤◌, Bool, true, false, not}
 use Rattle.play_inputs.specs.declared.Played.{Played}
 use Rattle.play_inputs.specs.declared.Played.TheVariants.{Done, Differs, ReadFailed, WriteFailed, Cut}

@@ -2,34 +2,37 @@
 
 #![tactic(auto)]
 
-ghost use Rattle.std.specs.Prelude.{◌≤◌};
+ghost use Rattle.std.specs.Prelude.{◌≤◌, IfOk};
 
-use play_inputs::{Played, play_input};
+use play_inputs::{Log, Played, play_input};
+use std::fs::File;
+use std::io::Sink;
+use std::rt::Files;
+use std::{env, io};
 
-// Writes argument i.
-fn print_name(i: usize) {
-    let mut name: [u8; 256] = [0; 256];
-    let n = os::arg(i, &mut name);
-    let ok = io::write_all(1, &name[..n]);
+// A name may have so many bytes; a longer one counts as none.
+const MOST_NAME: usize = 256;
+
+// Behind a name that may be opened there is room for its ending.
+const MOST_OPENED: usize = 252;
+
+fn within_bounds(name: &str) -> &str {
+    if name.len() > MOST_NAME { "" } else { name }
 }
 
-// Opens the file that argument i and an ending name. (Where the name is too long, or is not there, the ending is left: no file.)
-fn open_named(i: usize, log: bool) -> i32 {
-    let mut path: [u8; 256] = [0; 256];
-    let n = os::arg(i, &mut path);
-    if 252 < n {
-        return -1;
-    }
-    path[n] = b'.';
-    if log {
-        path[n + 1] = b'o';
-        path[n + 2] = b'u';
-        path[n + 3] = b't';
-        return os::open_read(&path[..n + 4]);
-    }
-    path[n + 1] = b'i';
-    path[n + 2] = b'n';
-    os::open_read(&path[..n + 3])
+// Writes a stream's name.
+fn print_name(rt: &impl Print, name: &str) -> io::Result<()> {
+    rt.print(name)
+}
+
+// Opens the file that a name and an ending name.
+fn open_named<R: Files + Alloc>(rt: &R, name: &str, log: bool) -> io::Result<R::File> {
+    let path = if log {
+        format!(in rt.alloc(); "{name}.out")?
+    } else {
+        format!(in rt.alloc(); "{name}.in")?
+    };
+    File::open(rt, path)
 }
 
 // A stream that cannot be read to its end differs too.
@@ -40,54 +43,48 @@ fn is_done(played: Played) -> bool {
     }
 }
 
-// Plays stream i and compares its log.
-fn is_same(i: usize) -> bool {
-    let input = open_named(i, false);
-    if input < 0 {
+// Plays a stream and compares its log. One without files differs.
+fn is_same<R: Files + Alloc>(rt: &R, name: &str) -> bool {
+    if name.len() > MOST_OPENED {
         return false;
     }
-    let log = open_named(i, true);
-    if log < 0 {
-        libc::close(input);
+    let Ok(mut input) = open_named(rt, name, false) else {
         return false;
-    }
-    let played = play_input(input, log, true);
-    libc::close(input);
-    libc::close(log);
-    is_done(played)
+    };
+    let Ok(stored) = open_named(rt, name, true) else {
+        return false;
+    };
+    let mut log: Log<Sink, R::File> = Log::Compared(stored);
+    is_done(play_input(&mut input, &mut log))
 }
 
-// Stream i with its line; 1 where it differs.
-fn replay(i: usize) -> u64
-    ensures { result ≤ 1 }
+// A stream with its line; 1 where it differs.
+fn replay<R: Files + Alloc + Print>(rt: &R, name: &str) -> io::Result<u64>
+    ensures { IfOk result (λ n. n ≤ 1) }
 {
-    let same = is_same(i);
-    print_name(i);
+    let same = is_same(rt, name);
+    print_name(rt, name)?;
     if same {
-        let ok = io::write_all(1, b" same\n");
-        return 0;
+        rt.println(" same")?;
+        return Ok(0);
     }
-    let ok = io::write_all(1, b" differs\n");
-    1
+    rt.println(" differs")?;
+    Ok(1)
 }
 
 // The last line.
-fn print_sum(streams: u64, differ: u64) {
-    io::print_decimal(1, streams);
-    io::write_all(1, b" streams, ");
-    io::print_decimal(1, differ);
-    io::write_all(1, b" differ\n");
+fn print_sum(rt: &impl Print, streams: u64, differ: u64) -> io::Result<()> {
+    println!(rt; "{streams} streams, {differ} differ")
 }
 
-fn main() {
-    let count = os::arg_count();
-    let mut streams: u64 = 0;
+fn main(rt: HostRuntime) -> io::Result<()> {
+    let mut names = env::args(&rt)?;
+    // The first argument is the program's own name.
+    let _ = names.next();
+    let streams = names.len() as u64;
     let mut differ: u64 = 0;
-    let mut i: usize = 1;
-    while i < count {
-        differ += replay(i);
-        streams += 1;
-        i += 1;
+    for name in names {
+        differ += replay(&rt, within_bounds(name.as_str()))?;
     }
-    print_sum(streams, differ);
+    print_sum(&rt, streams, differ)
 }

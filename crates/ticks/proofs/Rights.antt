@@ -150,7 +150,7 @@ module _ (s : Net) where
         → Uses e K
     by_drop : e.drops ≡ some K → (K.kind ≡ R) ⊎ Younger K → Uses e K
 
-  -- who may add to channel X: its master, or who occurs on its in_bus
+  -- who may add to channel X: its master, or who occurs on its in-bus
   pub data Gives (e : Footing) (X : Chan) : Type 0 where
     by_begin : (m : Agent) → e.beginner ≡ some m → X ≡ master_channel m → in_bus s.table X ≡ none → Gives e X
     into_bus : (b : Bus) → e.bus ≡ some b → in_bus s.table X ≡ some b → Gives e X

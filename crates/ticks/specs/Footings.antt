@@ -22,7 +22,7 @@ pub record Name : Type 0 where
   pub transaction : Transaction
 
 pub record Footing : Type 0 where
-  -- kinds 4 to 7: the bus on which it occurs, the out_bus of the named channel
+  -- kinds 4 to 7: the bus on which it occurs, the out-bus of the named channel
   pub bus : Option Bus
   -- kinds 1 to 3: the agent that begins
   pub beginner : Option Agent

@@ -33,7 +33,7 @@ no_bridge_at_all = record { numbers = 2 ∷ 0 ∷ 2 ∷ 2 ∷ 1 ∷ 1 ∷ []; pa
 unfoldable pub bridged_twice : Layout
 bridged_twice = record { numbers = 2 ∷ 2 ∷ 2 ∷ 2 ∷ 1 ∷ 1 ∷ []; pairs = 0 ∷ 1 ∷ 0 ∷ 1 ∷ []; homes = 0 ∷ 1 ∷ [] }
 
--- a refused table stops the program at block 0, and its state is the all_zero state
+-- a refused table stops the program at block 0, and its state is the all-zero state
 abbrev pub refused_table : Layout → ℕ → Row
 refused_table L n = record { input = network L; lines = stop 0 n ∷ []; state = zero_state }
 

@@ -11,6 +11,7 @@ use network::soundness::is_sound;
 use network::{State, open, zero};
 use play_events::steps::{inner_step, step};
 use play_ticks::at_once::tick;
+use std::io;
 
 // One bus with two agents.
 fn table() -> Table {
@@ -45,59 +46,64 @@ fn wide(x: u16) -> u64 {
     x as u64
 }
 
-fn put(word: u64) {
-    let ok = io::write_all(1, b" ");
-    io::print_decimal(1, word);
+fn put(rt: &impl Print, word: u64) -> io::Result<()> {
+    print!(rt; " {word}")
 }
 
-fn step_line(name: &[u8], s: State, r: &[u8]) {
+fn step_line(rt: &impl Print, name: &str, s: State, r: &[u8]) -> io::Result<()> {
     let q = step(s, r);
     let a = q.answer;
-    let ok = io::write_all(1, name);
-    put(number(a) as u64);
-    put(value(a) as u64);
-    let end = io::write_all(1, b"\n");
+    rt.print(name)?;
+    put(rt, number(a) as u64)?;
+    put(rt, value(a) as u64)?;
+    rt.println("")
 }
 
 // The step for whoever holds a sound state: its caller asks 16 itself.
-fn inner_line(name: &[u8], s: State, x: Step) {
+fn inner_line(rt: &impl Print, name: &str, s: State, x: Step) -> io::Result<()> {
     if !is_sound(s) {
-        return;
+        return Ok(());
     }
     let q = inner_step(s, x);
     let a = q.answer;
-    let ok = io::write_all(1, name);
-    put(number(a) as u64);
-    put(value(a) as u64);
-    let end = io::write_all(1, b"\n");
+    rt.print(name)?;
+    put(rt, number(a) as u64)?;
+    put(rt, value(a) as u64)?;
+    rt.println("")
 }
 
-fn tick_line(name: &[u8], s: State, r: &[u8], answers: &mut [u16]) {
+fn tick_line(
+    rt: &impl Print,
+    name: &str,
+    s: State,
+    r: &[u8],
+    answers: &mut [u16],
+) -> io::Result<()> {
     let q = tick(s, r, answers);
     let a = q.answer;
-    let ok = io::write_all(1, name);
-    put(tick_number(a) as u64);
-    put(tick_record(a) as u64);
-    put(tick_other(a) as u64);
+    rt.print(name)?;
+    put(rt, tick_number(a) as u64)?;
+    put(rt, tick_record(a) as u64)?;
+    put(rt, tick_other(a) as u64)?;
     let mut i: usize = 0;
     while i < answers.len() {
-        put(wide(answers[i]));
+        put(rt, wide(answers[i]))?;
         i += 1;
     }
-    let end = io::write_all(1, b"\n");
+    rt.println("")
 }
 
-fn main() {
+fn main(rt: HostRuntime) -> io::Result<()> {
     let o = open(table(), false);
     let s = o.state;
     // begins of agent 0 and of agent 1
     let both: [u8; 16] = [1, 0, 0, 1, 0, 0, 0, 0, 1, 0, 1, 0, 0, 0, 0, 0];
     let long: [u8; 512] = [0; 512];
-    step_line(b"step in the zero state", zero(), &both[..8]);
-    step_line(b"step of 7 bytes", s, &both[..7]);
-    step_line(b"step of 9 bytes", s, &both[..9]);
-    step_line(b"step of no bytes", s, &both[..0]);
-    step_line(b"step of 8 bytes", s, &both[..8]);
+    step_line(&rt, "step in the zero state", zero(), &both[..8])?;
+    step_line(&rt, "step of 7 bytes", s, &both[..7])?;
+    step_line(&rt, "step of 9 bytes", s, &both[..9])?;
+    step_line(&rt, "step of no bytes", s, &both[..0])?;
+    step_line(&rt, "step of 8 bytes", s, &both[..8])?;
     let begin = Event::BeginPosted {
         master: Agent(0),
         target: Agent(1),
@@ -107,16 +113,28 @@ fn main() {
         place: 0,
         event: begin,
     };
-    inner_line(b"inner step of a begin", s, x);
+    inner_line(&rt, "inner step of a begin", s, x)?;
     let mut one: [u16; 1] = [7; 1];
     let mut two: [u16; 2] = [7; 2];
     let mut three: [u16; 3] = [7; 3];
-    tick_line(b"tick in the zero state", zero(), &both, &mut three);
-    tick_line(b"tick of 15 bytes", s, &both[..15], &mut three);
-    tick_line(b"tick of 505 bytes", s, &long[..505], &mut three);
-    tick_line(b"tick of 512 bytes", s, &long, &mut three);
-    tick_line(b"tick of 2 records with 1 place", s, &both, &mut one);
-    tick_line(b"tick of 2 records with 2 places", s, &both, &mut two);
-    tick_line(b"tick of 1 record with 3 places", s, &both[..8], &mut three);
-    tick_line(b"tick of no record with 1 place", s, &both[..0], &mut one);
+    tick_line(&rt, "tick in the zero state", zero(), &both, &mut three)?;
+    tick_line(&rt, "tick of 15 bytes", s, &both[..15], &mut three)?;
+    tick_line(&rt, "tick of 505 bytes", s, &long[..505], &mut three)?;
+    tick_line(&rt, "tick of 512 bytes", s, &long, &mut three)?;
+    tick_line(&rt, "tick of 2 records with 1 place", s, &both, &mut one)?;
+    tick_line(&rt, "tick of 2 records with 2 places", s, &both, &mut two)?;
+    tick_line(
+        &rt,
+        "tick of 1 record with 3 places",
+        s,
+        &both[..8],
+        &mut three,
+    )?;
+    tick_line(
+        &rt,
+        "tick of no record with 1 place",
+        s,
+        &both[..0],
+        &mut one,
+    )
 }

@@ -4,7 +4,11 @@
 
 #![tactic(auto)]
 
+ghost use Rattle.std.specs.Prelude.{◌≤◌, length, IfOk};
+
 use run_inputs::run;
+use std::io;
+use std::io::{ErrorKind, Read};
 
 fn missing(length: usize, room: usize) -> usize {
     if room < length {
@@ -13,26 +17,42 @@ fn missing(length: usize, room: usize) -> usize {
     0
 }
 
-fn show(name: &[u8], input: &[u8], out: &mut [u8]) {
+fn show(rt: &impl Print, name: &str, input: &[u8], out: &mut [u8]) -> io::Result<()> {
     let length = run(input, out);
-    let named = io::write_all(1, name);
-    io::print_decimal(1, length as u64);
-    let apart = io::write_all(1, b" ");
-    io::print_decimal(1, missing(length, out.len()) as u64);
-    let told = io::write_all(1, b"\n");
-    let shown = io::write_all(1, out);
-    let ended = io::write_all(1, b"\n");
+    let short = missing(length, out.len());
+    println!(rt; "{name}{length} {short}")?;
+    rt.write_all(out)?;
+    rt.println("")
 }
 
-fn main() {
+// Reads until the buffer is full or the input is at its end; says how many bytes that were.
+fn read_full(from: &mut impl Read, buffer: &mut [u8]) -> io::Result<usize>
+    ensures { IfOk result (λ n. n ≤ length buffer.old) }
+{
+    let mut done: usize = 0;
+    for _ in 0..u64::MAX {
+        match from.read(&mut buffer[done..]) {
+            Ok(0) => return Ok(done),
+            Ok(n) => done += n,
+            Err(e) => {
+                if e.kind() != ErrorKind::Interrupted {
+                    return Err(e);
+                }
+            }
+        }
+    }
+    Ok(done)
+}
+
+fn main(rt: HostRuntime) -> io::Result<()> {
     let mut input: [u8; 2048] = [0; 2048];
-    let got = io::read_full(0, &mut input);
+    let got = read_full(&mut rt.stdin(), &mut input)?;
     let mut long: [u8; 128] = [46; 128];
-    show(b"enough ", &input[..got], &mut long);
+    show(&rt, "enough ", &input[..got], &mut long)?;
     let mut short: [u8; 16] = [46; 16];
-    show(b"too short ", &input[..got], &mut short);
+    show(&rt, "too short ", &input[..got], &mut short)?;
     let mut none: [u8; 0] = [0; 0];
-    show(b"empty ", &input[..got], &mut none);
+    show(&rt, "empty ", &input[..got], &mut none)?;
     let mut few: [u8; 16] = [46; 16];
-    show(b"no input ", &input[..0], &mut few);
+    show(&rt, "no input ", &input[..0], &mut few)
 }

@@ -1,4 +1,4 @@
--- A channel's out_bus: the agent's bus, or the far end of its bridge.
+-- A channel's out-bus: the agent's bus, or the far end of its bridge.
 -- The definition's cases, in its order; that the agent and the bridge are there follows from `table_passes`.
 use mathlib.Core.Path.{◌≡◌}
 use mathlib.Core.Bool.{true, false}
