@@ -1,4 +1,4 @@
-// What a change makes of a lent channel, where it lies. Covered code says what is to be done; one loop moves entries.
+// What a change makes of a lent channel, where it lies. Code by value says what is to be done; one loop moves entries.
 ghost use Rattle.std.specs.Prelude.{◌≡◌, ◌<◌, ◌≤◌};
 ghost use Rattle.queue.specs.Packing.{channel_places};
 ghost use Rattle.queue.specs.code.Methods.{changed_to};

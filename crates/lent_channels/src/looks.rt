@@ -1,4 +1,4 @@
-// What a lent channel shows. Each look is a loop of the same form over its entries, with covered steps: where it starts,
+// What a lent channel shows. Each look is a loop of the same form over its entries, with steps by value: where it starts,
 // how far it goes, what an entry makes of it, when it is done and what it tells. A turn of the loop is proved once for
 // all of them (proofs/Folding.antt).
 ghost use Rattle.std.specs.Prelude.{◌≡◌, false};
