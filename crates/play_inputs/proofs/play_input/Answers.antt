@@ -24,7 +24,7 @@ returns-then-not-hand_on-clause-known g c =
     let long : length c.read_block-got.new.block ≡ 512 = search rules in
     let room : c.play_next-r.result.end ≤ length l.out = omega (arith, page.end_bound, l.invariant.out_long) in
     let took = c.if-not-hand_on.ensures.known in
-    if_some (g.R.Read.remaining c.args.input.now) (λ input left. faulty g.W.Write.contents g.S.Read.remaining _ _ c.is_compared-compare.result c.fault.result _ c.fault.ensures.value
+    if_some (g.R.Read.remaining c.args.input.now) (λ input left. faulty g.W.Write.contents g.S.Read.remaining _ _ _ c.fault.result _ c.fault.ensures.value
     (ends_cut g.W.Write.contents g.S.Read.remaining c.args.log.now l.log c.hand_on.new.log l.state l.place _ _ c.read_block-got.new.block l.out c.play_next-r.new.out c.in-Bytes.n c.play_next-r.result.end
     fits long c.in-Bytes.ensures.known page.written room input left took))
     l.invariant.left
