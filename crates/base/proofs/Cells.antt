@@ -4,7 +4,7 @@ use Prim.Native.Nat.{ℕ, zero, suc, ◌<◌}
 use mathlib.Core.Path.{◌≡◌, refl, sym, ap, ◌∙◌}
 use mathlib.Core.Bool.{Bool, true, false, cond, ◌&&◌, ◌||◌}
 use mathlib.Core.Logic.{◌⊎◌, inl, inr, ⊎_elim}
-use mathlib.Core.Option.{none, some}
+use Rattle.std.specs.Prelude.{None, Some}
 use mathlib.Core.List.{List, [], ◌∷◌, ◌++◌, map}
 use native.Mathlib.Omega.{arith}
 use lib.ListN.{get_or, length, take}
@@ -80,7 +80,7 @@ module _ {A : Type 0} where
   in_all p [] h = refl
   in_all p (b ∷ l) h = true_and (p b) (all p l) (h b first) (in_all p l (λ a i. h a (later i)))
 
-  pub find_in : (p : A → Bool) (l : List A) {a : A} → find p l ≡ some a → In a l
+  pub find_in : (p : A → Bool) (l : List A) {a : A} → find p l ≡ Some a → In a l
   unfolding find
   find_in p [] {a} h = absurd (none_some {a = a} refl h)
   find_in p (b ∷ l) {a} h = split (p b) (λ t. let e : b ≡ a = cc (rw t at h) in rw e first) (λ f. later (find_in p l (rw f at h)))
@@ -91,7 +91,7 @@ module _ {A : Type 0} where
   in_found p (b ∷ l) first h = rw h
   in_found p (b ∷ l) (later i) h = split (p b) (λ t. rw t) (λ f. rw f (in_found p l i h))
 
-  pub none_found : (p : A → Bool) (l : List A) → ((a : A) → In a l → p a ≡ false) → find p l ≡ none
+  pub none_found : (p : A → Bool) (l : List A) → ((a : A) → In a l → p a ≡ false) → find p l ≡ None
   unfolding find
   none_found p [] h = refl
   none_found p (b ∷ l) h = rw (h b first) (none_found p l (λ a i. h a (later i)))

@@ -1,7 +1,7 @@
 -- Laws of lists: what all pass, one of them passes; what is found passes; what is put behind others of another sort is not counted.
 use Prim.Native.Nat.{ℕ, zero, suc, ◌<◌}
 use mathlib.Core.Path.{◌≡◌, refl, ap, subst}
-use mathlib.Core.Option.{Option, none, some}
+use Rattle.std.specs.Prelude.{Option, None, Some}
 use mathlib.Core.Bool.{Bool, true, false}
 use mathlib.Core.List.{List, [], ◌∷◌, ◌++◌}
 use native.Mathlib.Omega.{arith}
@@ -18,7 +18,7 @@ module _ {A : Type 0} where
   all_take p (suc n) (x ∷ l) d h z zero k = (and_true (p x) (all p (take n l)) h).0
   all_take p (suc n) (x ∷ l) d h z (suc i) k = all_take p n l d (and_true (p x) (all p (take n l)) h).1 z i (omega arith)
 
-  pub found_passes : (p : A → Bool) (l : List A) {x : A} → find p l ≡ some x → p x ≡ true
+  pub found_passes : (p : A → Bool) (l : List A) {x : A} → find p l ≡ Some x → p x ≡ true
   unfolding find
   found_passes p [] {x} h = absurd (none_some {a = x} refl h)
   found_passes p (y ∷ l) {x} h =
@@ -33,10 +33,10 @@ module _ {A : Type 0} where
   count_past p (u ∷ us) x vs h = split (p u) (λ t. rw t (ap suc (count_past p us x vs h))) (λ f. rw f (count_past p us x vs h))
 
   -- what is there, and what is not
-  pub is_there : (o : Option A) → is_some o ≡ true → (x : A) × (o ≡ some x)
-  is_there none h = absurd (both false h refl)
-  is_there (some x) h = (x, refl)
+  pub is_there : (o : Option A) → is_some o ≡ true → (x : A) × (o ≡ Some x)
+  is_there None h = absurd (both false h refl)
+  is_there (Some x) h = (x, refl)
 
-  pub is_none : (o : Option A) → is_some o ≡ false → o ≡ none
-  is_none none h = refl
-  is_none (some x) h = absurd (both true refl h)
+  pub is_none : (o : Option A) → is_some o ≡ false → o ≡ None
+  is_none None h = refl
+  is_none (Some x) h = absurd (both true refl h)

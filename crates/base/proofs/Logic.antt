@@ -3,7 +3,8 @@ use Prim.Native.Nat.{ℕ, ◌<◌, ◌≤◌}
 use mathlib.Core.Path.{◌≡◌, refl, ap, sym, ◌∙◌}
 use mathlib.Core.Bool.{Bool, true, false, ◌&&◌, ◌||◌}
 use mathlib.Core.Logic.{◌⊎◌, inl, inr}
-use mathlib.Core.Option.{Option, none, some}
+use Rattle.std.specs.Prelude.{Option, None, Some}
+use Rattle.base.specs.Lists.{or_else}
 use native.Mathlib.Omega.{arith}
 use borrow.Author.Tests.{eqb-true, eqb-false, ltb-true, ltb-false}
 use lib.Dec.{eqb, ltb}
@@ -14,9 +15,9 @@ split true t f = t refl
 split false t f = f refl
 
 -- by what is there
-pub there {ℓ} : {A : Type 0} {P : Type ℓ} (o : Option A) → (o ≡ none → P) → ((a : A) → o ≡ some a → P) → P
-there none n s = n refl
-there (some a) n s = s a refl
+pub there {ℓ} : {A : Type 0} {P : Type ℓ} (o : Option A) → (o ≡ None → P) → ((a : A) → o ≡ Some a → P) → P
+there None n s = n refl
+there (Some a) n s = s a refl
 
 pub true_false : true ≡ false → ⊥
 true_false e = let z : ◌≡◌ {A = ℕ} 0 1 = cc in omega arith
@@ -58,7 +59,11 @@ pub or_false : (a b : Bool) → a || b ≡ false → (a ≡ false) × (b ≡ fal
 or_false true b h = absurd (true_false h)
 or_false false b h = (refl, h)
 
-pub none_some : {A : Type 0} {a : A} {o : Option A} → o ≡ none → o ≡ some a → ⊥
+-- what is there, told by its equation
+pub some_same : {A : Type 0} (a b : A) → Some a ≡ Some b → a ≡ b
+some_same a b h = ap (or_else a) h
+
+pub none_some : {A : Type 0} {a : A} {o : Option A} → o ≡ None → o ≡ Some a → ⊥
 none_some p q = let z : ◌≡◌ {A = ℕ} 0 1 = cc in omega arith
 
 -- two results that a statement `r ≡ definition` allows are one

@@ -7,38 +7,38 @@ use mathlib.Core.Path.{◌≡◌, refl, sym, ap}
 use mathlib.Core.Logic.{◌≢◌}
 use mathlib.Core.List.{List, [], ◌∷◌, ◌++◌, append_assoc}
 use mathlib.Core.Bool.{Bool, false}
-use mathlib.Core.Option.{none, some}
+use Rattle.std.specs.Prelude.{None, Some}
 use lib.ListN.{length, get_or, length-append}
 use Rattle.base.specs.Lists.{find, alter, count, modify}
 use Rattle.base.proofs.Logic.{split, none_some}
 
 module _ {A : Type 0} where
   -- what is found stays so, whatever comes behind it
-  pub find_add : (p : A → Bool) (l m : List A) {e : A} → find p l ≡ some e → find p (l ++ m) ≡ some e
+  pub find_add : (p : A → Bool) (l m : List A) {e : A} → find p l ≡ Some e → find p (l ++ m) ≡ Some e
   unfolding find
   find_add p [] m {e} h = absurd (none_some {a = e} refl h)
   find_add p (x ∷ xs) m h = split (p x) (λ t. rw t (rw t at h)) (λ f. rw f (find_add p xs m (rw f at h)))
 
   -- where none is found, what comes behind is looked through
-  pub none_add : (p : A → Bool) (l m : List A) → find p l ≡ none → find p (l ++ m) ≡ find p m
+  pub none_add : (p : A → Bool) (l m : List A) → find p l ≡ None → find p (l ++ m) ≡ find p m
   unfolding find
   none_add p [] m h = refl
   none_add p (x ∷ xs) m h = split (p x) (λ t. absurd (none_some {a = x} h (rw t))) (λ f. rw f (none_add p xs m (rw f at h)))
 
   -- an altered element that does not pass, and makes nothing that passes, hides and shows nothing
-  pub find_alter : (p q : A → Bool) (f : A → List A) → ((x : A) → p x ≡ false → find p (f x) ≡ none)
-      → (l : List A) {e : A} → find p l ≡ some e → q e ≡ false → find p (alter q f l) ≡ some e
+  pub find_alter : (p q : A → Bool) (f : A → List A) → ((x : A) → p x ≡ false → find p (f x) ≡ None)
+      → (l : List A) {e : A} → find p l ≡ Some e → q e ≡ false → find p (alter q f l) ≡ Some e
   unfolding find alter
   find_alter p q f hf [] {e} h hq = absurd (none_some {a = e} refl h)
   find_alter p q f hf (x ∷ xs) {e} h hq =
       split (p x)
-      (λ t. let s : some x ≡ some e = rw t at h in let k : q x ≡ false = cc in rw (k, t) s)
+      (λ t. let s : Some x ≡ Some e = rw t at h in let k : q x ≡ false = cc in rw (k, t) s)
       (λ t. split (q x)
       (λ k. rw k (rw (none_add p (f x) xs (hf x t)) (rw t at h)))
       (λ k. rw (k, t) (find_alter p q f hf xs (rw t at h) hq)))
 
-  pub none_alter : (p q : A → Bool) (f : A → List A) → ((x : A) → p x ≡ false → find p (f x) ≡ none)
-      → (l : List A) → find p l ≡ none → find p (alter q f l) ≡ none
+  pub none_alter : (p q : A → Bool) (f : A → List A) → ((x : A) → p x ≡ false → find p (f x) ≡ None)
+      → (l : List A) → find p l ≡ None → find p (alter q f l) ≡ None
   unfolding find alter
   none_alter p q f hf [] h = refl
   none_alter p q f hf (x ∷ xs) h =
@@ -63,27 +63,27 @@ module _ {A : Type 0} where
       (λ k. rw k (omega (arith, count_alter p q f hf xs, count_add p (x ∷ []) xs, count_add p (x ∷ []) (alter q f xs))))
 
   -- an element that is there is altered alike before and after an addition
-  pub alter_add : (q : A → Bool) (f : A → List A) (l m : List A) {e : A} → find q l ≡ some e → alter q f (l ++ m) ≡ alter q f l ++ m
+  pub alter_add : (q : A → Bool) (f : A → List A) (l m : List A) {e : A} → find q l ≡ Some e → alter q f (l ++ m) ≡ alter q f l ++ m
   unfolding find alter
   alter_add q f [] m {e} h = absurd (none_some {a = e} refl h)
   alter_add q f (x ∷ xs) m h = split (q x) (λ k. rw k (sym (append_assoc (f x) xs m))) (λ k. rw k (ap (x ∷◌) (alter_add q f xs m (rw k at h))))
 
-  pub alter_skip : (q : A → Bool) (f : A → List A) (l m : List A) → find q l ≡ none → alter q f (l ++ m) ≡ l ++ alter q f m
+  pub alter_skip : (q : A → Bool) (f : A → List A) (l m : List A) → find q l ≡ None → alter q f (l ++ m) ≡ l ++ alter q f m
   unfolding find alter
   alter_skip q f [] m h = refl
   alter_skip q f (x ∷ xs) m h = split (q x) (λ k. absurd (none_some {a = x} h (rw k))) (λ k. rw k (ap (x ∷◌) (alter_skip q f xs m (rw k at h))))
 
   -- two elements are altered in either order
-  pub alter_comm : (q r : A → Bool) (f g : A → List A) (l : List A) {e d : A} → find q l ≡ some e → find r l ≡ some d
-      → r e ≡ false → q d ≡ false → find r (f e) ≡ none → find q (g d) ≡ none
+  pub alter_comm : (q r : A → Bool) (f g : A → List A) (l : List A) {e d : A} → find q l ≡ Some e → find r l ≡ Some d
+      → r e ≡ false → q d ≡ false → find r (f e) ≡ None → find q (g d) ≡ None
       → alter q f (alter r g l) ≡ alter r g (alter q f l)
   unfolding find alter
   alter_comm q r f g [] he hd re qd hf hg = refl
   alter_comm q r f g (x ∷ xs) {e} {d} he hd re qd hf hg =
       split (q x)
-      (λ t. let s : some x ≡ some e = rw t at he in let k : r x ≡ false = cc in let hfx : find r (f x) ≡ none = cc in simp (t, k) (sym (alter_skip r g (f x) xs hfx)))
+      (λ t. let s : Some x ≡ Some e = rw t at he in let k : r x ≡ false = cc in let hfx : find r (f x) ≡ None = cc in simp (t, k) (sym (alter_skip r g (f x) xs hfx)))
       (λ t. split (r x)
-      (λ k. let s : some x ≡ some d = rw k at hd in let hgx : find q (g x) ≡ none = cc in simp (t, k) (alter_skip q f (g x) xs hgx))
+      (λ k. let s : Some x ≡ Some d = rw k at hd in let hgx : find q (g x) ≡ None = cc in simp (t, k) (alter_skip q f (g x) xs hgx))
       (λ k. simp (t, k) (ap (x ∷◌) (alter_comm q r f g xs (rw t at he) (rw k at hd) re qd hf hg))))
 
   -- where each gives way to at most one, the list grows no longer

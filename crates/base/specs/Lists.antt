@@ -1,12 +1,11 @@
 -- Lists of any element type: the first that passes a test, its removal or change, all that pass, counts, one cell changed, equal parts.
-use Rattle.std.specs.Prelude.{ℕ, zero, suc, List, [], ◌∷◌, ◌++◌, Bool, true, false, cond, ◌&&◌, ◌||◌, take, drop}
-use Rattle.std.proofs.Math.Option.{Option, none, some}
+use Rattle.std.specs.Prelude.{ℕ, zero, suc, List, [], ◌∷◌, ◌++◌, Bool, true, false, cond, ◌&&◌, take, drop, Option, None, Some}
+use Rattle.std.specs.List as library
 
 module _ {A : Type 0} where
   -- the first that passes p
   unfoldable pub find : (A → Bool) → List A → Option A
-  find p [] = none
-  find p (x ∷ xs) = cond (p x) (some x) (find p xs)
+  find = library.find
 
   -- the first that passes p gives way to what f makes of it
   unfoldable pub alter : (A → Bool) → (A → List A) → List A → List A
@@ -15,8 +14,7 @@ module _ {A : Type 0} where
 
   -- those that pass p, in their order
   unfoldable pub only : (A → Bool) → List A → List A
-  only p [] = []
-  only p (x ∷ xs) = cond (p x) (x ∷ only p xs) (only p xs)
+  only = library.filter
 
   -- how many pass p
   unfoldable pub count : (A → Bool) → List A → ℕ
@@ -24,12 +22,10 @@ module _ {A : Type 0} where
   count p (x ∷ xs) = cond (p x) (suc (count p xs)) (count p xs)
 
   unfoldable pub all : (A → Bool) → List A → Bool
-  all p [] = true
-  all p (x ∷ xs) = p x && all p xs
+  all = library.list_all
 
   unfoldable pub any : (A → Bool) → List A → Bool
-  any p [] = false
-  any p (x ∷ xs) = p x || any p xs
+  any = library.list_any
 
   -- all pass p, which is also told the place; places count from i
   unfoldable pub all_from : ℕ → (ℕ → A → Bool) → List A → Bool
@@ -48,18 +44,18 @@ module _ {A : Type 0} where
   parts (suc k) n l = take n l ∷ parts k n (drop n l)
 
   abbrev pub is_some : Option A → Bool
-  is_some none = false
-  is_some (some x) = true
+  is_some None = false
+  is_some (Some x) = true
 
   -- there is one, and it passes p
   abbrev pub passes : (A → Bool) → Option A → Bool
-  passes p none = false
-  passes p (some x) = p x
+  passes p None = false
+  passes p (Some x) = p x
 
   -- what is there, or d
   abbrev pub or_else : A → Option A → A
-  or_else d none = d
-  or_else d (some x) = x
+  or_else d None = d
+  or_else d (Some x) = x
 
 -- i, i + 1, .., n in all
 unfoldable pub from_to : ℕ → ℕ → List ℕ

@@ -3,6 +3,7 @@ use Rattle.std.specs.Prelude.{ℕ, suc, ◌+◌, ◌*◌, Bool, cond, not, ◌&&
 use Rattle.std.proofs.Math.Seq.{slice}
 use Rattle.base.specs.Lists.{all, parts}
 use Rattle.base.specs.Grounds.{Ground, ◌when◌}
+use Rattle.base.specs.declared.Refusal.TheVariants.{NotABlock, WrongCheck, WrongHead, UnusedByte}
 use Rattle.chassis.specs.declared.Bridge.{Bridge}
 use Rattle.chassis.specs.declared.Table.{Table}
 use Rattle.chassis.specs.Numbers.{bus}
@@ -86,11 +87,11 @@ block_records b = parts (record_count b) 8 (record_bytes b)
 -- tables 23 to 27, event blocks 24 only
 unfoldable pub content_grounds : List ℕ → List Ground
 content_grounds b =
-    cond (eqb (block_kind b) 1) (table_grounds (table_of b) (stray_in_table b)) (24 when stray_behind_records b ∷ [])
+    cond (eqb (block_kind b) 1) (table_grounds (table_of b) (stray_in_table b)) (UnusedByte when stray_behind_records b ∷ [])
 
 unfoldable pub block_grounds : ℕ → List ℕ → List Ground
 block_grounds place b =
-    20 when not (eqb (length b) 512)
-    ∷ 21 when not (check_is_right b)
-    ∷ 22 when not (kind_place_count_are_right place b)
+    NotABlock when not (eqb (length b) 512)
+    ∷ WrongCheck when not (check_is_right b)
+    ∷ WrongHead when not (kind_place_count_are_right place b)
     ∷ content_grounds b

@@ -4,11 +4,9 @@
 
 pub mod checks;
 
-// What a block is found to be: refused with document 01's number, a table, single steps, or one tick. (The table itself is
-// read by `frames::table_of`.)
-#[derive(Clone, Copy)]
-pub enum BlockAnswer {
-    Refused(u8),
+// What an accepted block is: a table, single steps, or one tick. (The table itself is read by `checks::table_of`.)
+#[derive(Clone, Copy, Debug, PartialEq, Eq)]
+pub enum BlockKind {
     Network,
     Steps,
     Tick,

@@ -4,10 +4,9 @@ use Prim.Native.Nat.{ℕ, zero, suc, ◌≤◌, ◌<◌}
 use native.Mathlib.Omega.{arith}
 use mathlib.Core.Path.{◌≡◌, refl, sym, ap, subst, ◌∙◌}
 use mathlib.Core.Bool.{true, false, not}
-use mathlib.Core.Option.{some-injective}
 use mathlib.Core.List.{List, [], ◌∷◌, map}
 use lib.ListN.{length, drop, length-map, length-drop}
-use Rattle.base.proofs.Logic.{both}
+use Rattle.base.proofs.Logic.{both, some_same}
 use Rattle.chassis.specs.declared.Agent.{Agent}
 use Rattle.chassis.specs.declared.Bus.{Bus}
 use Rattle.chassis.specs.declared.Chan.{Chan}
@@ -103,7 +102,7 @@ module _ (T : Table) (ok : table_passes T ≡ true) (m a : Agent) (has : has_age
   pub opposite_out : (i : ℕ) → i < k → out_bus T (opposite T (nth w (suc i))) ≡ out_bus T (nth w i)
   opposite_out i l =
       let n = next T ok (nth w i) a (nth w (suc i)) (nth_there i (omega arith)) (nth_next i l) in
-      some-injective _ _ (sym (opposing T (nth w (suc i)) n.there n.no_master).out ∙ n.into)
+      some_same _ _ (sym (opposing T (nth w (suc i)) n.there n.no_master).out ∙ n.into)
 
   -- two channels that follow each other are of two bridges
   two_bridges : (j : ℕ) → suc j < k → nth w (suc j) ≡ opposite T (nth w (suc (suc j))) → ⊥

@@ -3,7 +3,7 @@
 use Prim.Native.Nat.{ℕ, ◌+◌, ◌-◌, ◌*◌, ◌%◌, ◌<◌}
 use mathlib.Core.Path.{◌≡◌, refl, ap, subst⁻¹}
 use mathlib.Core.Bool.{Bool, true, false, not, cond}
-use mathlib.Core.Option.{some}
+use Rattle.std.specs.Prelude.{Some}
 use native.Mathlib.Omega.{arith}
 use borrow.Author.Tests.{ltb-true, ltb-false, lt-ltb, le-ltb, eqb-true, eqb-false, eq-eqb, ne_eqb}
 use Rattle.base.proofs.Logic.{split}
@@ -47,9 +47,9 @@ module _ (T : Table) where
   unfolding out_bus
   hop_out g d = rw (hop_no_master g d, hop_forth g d, hop_bridge g d) (by_way d g).0
 
-  pub hop_in : (g : ℕ) (d : Bool) → in_bus T (channel_of T (hop g d)) ≡ some (from T (hop g d))
+  pub hop_in : (g : ℕ) (d : Bool) → in_bus T (channel_of T (hop g d)) ≡ Some (from T (hop g d))
   unfolding in_bus
-  hop_in g d = rw (hop_no_master g d, hop_forth g d, hop_bridge g d) (ap some (by_way d g).1)
+  hop_in g d = rw (hop_no_master g d, hop_forth g d, hop_bridge g d) (ap Some (by_way d g).1)
 
   pub hop_opposite : (g : ℕ) (d : Bool) → opposite T (channel_of T (hop g d)) ≡ channel_of T (hop g (not d))
   unfolding opposite
@@ -82,8 +82,8 @@ module _ (T : Table) where
     pub back : opposite T (opposite T N) ≡ N
     pub there : has_chan T (opposite T N) ≡ true
     pub no_master : is_master T (opposite T N) ≡ false
-    pub out : in_bus T N ≡ some (out_bus T (opposite T N))
-    pub into : in_bus T (opposite T N) ≡ some (out_bus T N)
+    pub out : in_bus T N ≡ Some (out_bus T (opposite T N))
+    pub into : in_bus T (opposite T N) ≡ Some (out_bus T N)
 
   pub turned : (g : ℕ) (d : Bool) → (hop g (not (not d)) ≡ hop g d) × (to T (hop g (not d)) ≡ from T (hop g d)) × (from T (hop g (not d)) ≡ to T (hop g d))
   turned g true = (refl, refl, refl)

@@ -4,7 +4,7 @@ use Prim.Native.Nat.{ℕ, suc, ◌+◌, ◌-◌, ◌<◌}
 use mathlib.Core.Path.{◌≡◌, refl, sym, ap, subst, subst⁻¹, ◌∙◌}
 use mathlib.Core.Bool.{Bool, true, false}
 use mathlib.Core.Logic.{⊎_elim, ◌↔◌}
-use mathlib.Core.Option.{some}
+use Rattle.std.specs.Prelude.{Some}
 use mathlib.Core.List.{List, [], ◌∷◌}
 use native.Mathlib.Omega.{arith}
 use borrow.Author.Tests.{ltb-true, ltb-false, lt-ltb, eqb-true, eq-eqb}
@@ -86,7 +86,7 @@ module _ (T : Table) (ok : table_passes T ≡ true) where
     pub nearer : way T (out_bus T X) (home T t) ≡ rest
     pub there : has_chan T X ≡ true
     pub no_master : is_master T X ≡ false
-    pub into : in_bus T X ≡ some (out_bus T N)
+    pub into : in_bus T X ≡ Some (out_bus T N)
 
   next_by : (N : Chan) (t : Agent) (X : Chan) (g : ℕ) (d : Bool) (rest : List Hop) → X ≡ channel_of T (hop g d)
       → way T (out_bus T N) (home T t) ≡ hop g d ∷ rest → Step T ok (out_bus T N) (home T t) g d rest → Next N t X
@@ -100,7 +100,7 @@ module _ (T : Table) (ok : table_passes T ≡ true) where
     nearer = rw (e, hop_out T g d) w.nearer;
     there = rw e (hop_has_chan T g d w.there);
     no_master = rw e (hop_no_master T g d);
-    into = rw (e, hop_in T g d) (ap some w.starts);
+    into = rw (e, hop_in T g d) (ap Some w.starts);
   }
 
   pub next : (N : Chan) (t : Agent) (X : Chan) → has_chan T N ≡ true → next_place T N t ≡ Through X → Next N t X

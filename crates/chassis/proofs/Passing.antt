@@ -1,13 +1,13 @@
 -- What a table that passes grounds 23 to 27 has; and where 23 and 25 do not hold, 27 holds exactly where there is not
 -- exactly one way.
-use Prim.Native.Nat.{ℕ}
 use mathlib.Core.Path.{◌≡◌, refl, sym}
 use mathlib.Core.Bool.{true, false, not}
 use mathlib.Core.Logic.{◌↔◌}
-use mathlib.Core.Option.{Option, none, some}
+use Rattle.std.specs.Prelude.{Option, None, Some}
 use borrow.Author.Tests.{ltb-true, lt-ltb, not-false}
 use lib.ListN.{take}
 use Rattle.base.specs.Lists.{all, is_some}
+use Rattle.base.specs.declared.Refusal.{Refusal}
 use Rattle.base.specs.Grounds.{refusal}
 use Rattle.base.proofs.Logic.{and_true, or_false, true_and, true_false}
 use Rattle.base.proofs.Grounds.{clear}
@@ -20,9 +20,9 @@ use Rattle.chassis.specs.Tables.{homes_of, has_both_buses, counts_in_range, unus
 use Rattle.chassis.proofs.Counts.{counts}
 use Rattle.chassis.proofs.Trees.{Ends, one_way_is_one, one_way_is_exactly_one_way}
 
-not_refused : (o : Option ℕ) → not (is_some o) ≡ true → o ≡ none
-not_refused none h = refl
-not_refused (some n) h = absurd (true_false (sym h))
+not_refused : (o : Option Refusal) → not (is_some o) ≡ true → o ≡ None
+not_refused None h = refl
+not_refused (Some n) h = absurd (true_false (sym h))
 
 pub record Passed (T : Table) : Type 0 where
   pub counts : counts_in_range T ≡ true

@@ -1,7 +1,6 @@
 -- Channels and their buses. With A agents, channel a below A is the master channel of agent a;
 -- bridge g has channel A + 2g, from its first bus to its second, and A + 2g + 1, the opposite one.
-use Rattle.std.specs.Prelude.{ℕ, ◌+◌, ◌-◌, ◌*◌, ◌/◌, ◌%◌, Bool, cond, get_or, ltb, eqb}
-use Rattle.std.proofs.Math.Option.{Option, none, some}
+use Rattle.std.specs.Prelude.{ℕ, ◌+◌, ◌-◌, ◌*◌, ◌/◌, ◌%◌, Bool, cond, get_or, ltb, eqb, Option, None, Some}
 use Rattle.chassis.specs.declared.Agent.{Agent}
 use Rattle.chassis.specs.declared.Bus.{Bus}
 use Rattle.chassis.specs.declared.Chan.{Chan}
@@ -57,8 +56,8 @@ out_bus T N =
 -- a master channel has no in-bus
 unfoldable pub in_bus : Table → Chan → Option Bus
 in_bus T N =
-    cond (is_master T N) none
-    (some (cond (goes_forth T N) (first_bus T (bridge_of T N)) (second_bus T (bridge_of T N))))
+    cond (is_master T N) None
+    (Some (cond (goes_forth T N) (first_bus T (bridge_of T N)) (second_bus T (bridge_of T N))))
 
 -- the other channel of the same bridge
 unfoldable pub opposite : Table → Chan → Chan

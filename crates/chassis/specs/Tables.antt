@@ -2,6 +2,7 @@
 use Rattle.std.specs.Prelude.{ℕ, Bool, false, not, ◌&&◌, ◌||◌, List, [], ◌∷◌, take, drop, replicate, leb, eqb}
 use Rattle.base.specs.Lists.{all, any, is_some}
 use Rattle.base.specs.Grounds.{Ground, ◌when◌, refusal}
+use Rattle.base.specs.declared.Refusal.TheVariants.{OutOfRange, UnusedByte, NoSuchBus, OnOneBus, NotOneWay}
 use Rattle.chassis.specs.declared.Bus.{Bus}
 use Rattle.chassis.specs.declared.Bridge.{Bridge}
 use Rattle.chassis.specs.declared.Table.{Table}
@@ -55,11 +56,11 @@ a_bridge_on_one_bus T = any is_on_one_bus (bridges_of T)
 -- `stray`: whatever else brought the table, its bytes, has an unused one that is not 0
 unfoldable pub table_grounds : Table → Bool → List Ground
 table_grounds T stray =
-    23 when not (counts_in_range T)
-    ∷ 24 when (not (unused_are_zero T) || stray)
-    ∷ 25 when not (buses_are_there T)
-    ∷ 26 when a_bridge_on_one_bus T
-    ∷ 27 when not (one_way T)
+    OutOfRange when not (counts_in_range T)
+    ∷ UnusedByte when (not (unused_are_zero T) || stray)
+    ∷ NoSuchBus when not (buses_are_there T)
+    ∷ OnOneBus when a_bridge_on_one_bus T
+    ∷ NotOneWay when not (one_way T)
     ∷ []
 
 -- the table passes grounds 23 to 27

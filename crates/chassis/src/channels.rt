@@ -29,43 +29,36 @@ pub fn home(t: Table, a: Agent) -> Bus
     requires { a.0 < most_agents }
     ensures { result ≡ home t a }
 {
-    let i = a.0 as usize;
-    t.homes[i]
+    t.homes[a.0 as usize]
 }
 
 // A master channel is at no distance from the agents, as differences are counted in the definitions.
 fn goes_forth(t: Table, n: Chan) -> bool
     ensures { result ≡ goes_forth t n }
 {
-    if n.0 < t.agents {
-        return true;
-    }
-    (n.0 - t.agents) % 2 == 0
+    n.0 < t.agents || (n.0 - t.agents) % 2 == 0
 }
 
+#[tactic(auto, using(base::proofs::Cases::cases), unfolding(crate::specs::Channels::out_bus))]
 pub fn out_bus(t: Table, n: Chan) -> Bus
     requires { (table_passes t ≡ true) × (has_chan t n ≡ true) }
     ensures { result ≡ out_bus t n }
 {
-    let c = n.0;
     if is_master(t, n) {
-        return home(t, Agent(c));
+        return home(t, Agent(n.0));
     }
-    let g = ((c - t.agents) / 2) as usize;
-    let b = t.pairs[g];
-    if goes_forth(t, n) {
-        return b.second;
-    }
-    b.first
+    let b = t.pairs[((n.0 - t.agents) / 2) as usize];
+    if goes_forth(t, n) { b.second } else { b.first }
 }
 
+#[tactic(auto, using(base::proofs::Cases::cases), unfolding(crate::specs::Channels::opposite))]
 pub fn opposite(t: Table, n: Chan) -> Chan
     requires { n.0 < 255 }
     ensures { result ≡ opposite t n }
 {
-    let c = n.0;
     if goes_forth(t, n) {
-        return Chan(c + 1);
+        Chan(n.0 + 1)
+    } else {
+        Chan(n.0 - 1)
     }
-    Chan(c - 1)
 }

@@ -21,24 +21,25 @@ pub const MOST_CHANNELS_U8: u8 = MOST_CHANNELS as u8;
 pub const MOST_RECORDS_U8: u8 = MOST_RECORDS as u8;
 
 // Agent numbers, bus numbers and channel numbers are kept apart throughout: one type each.
-#[derive(Clone, Copy)]
+#[derive(Clone, Copy, Debug, PartialEq, Eq)]
 pub struct Agent(pub u8);
 
-#[derive(Clone, Copy)]
+#[derive(Clone, Copy, Debug, PartialEq, Eq)]
 pub struct Bus(pub u8);
 
-#[derive(Clone, Copy)]
+#[derive(Clone, Copy, Debug, PartialEq, Eq)]
 pub struct Chan(pub u8);
 
 // A bridge record: two bus numbers.
-#[derive(Clone, Copy)]
+#[derive(Clone, Copy, Debug, PartialEq, Eq)]
 pub struct Bridge {
     pub first: Bus,
     pub second: Bus,
 }
 
-// A list of bridge records and one bus for each agent make the table; `limits` are those for P, R and C.
-#[derive(Clone, Copy)]
+// A list of bridge records and one bus for each agent make the table; `limits` are those for P, R and C. (Arrays with their counts
+// beside: memory is fixed, and a table as a fitter brings it may count more than it has: grounds 23 and 24.)
+#[derive(Clone, Copy, Debug, PartialEq, Eq)]
 pub struct Table {
     pub buses: u8,
     pub bridges: u8,
@@ -48,23 +49,10 @@ pub struct Table {
     pub homes: [Bus; MOST_AGENTS],
 }
 
-// The next place on a way: the target itself, or a bridge channel.
-#[derive(Clone, Copy)]
+// The next place on a way: the target itself, or a bridge channel. (No Option: document 01 names both, and None would not say that the
+// target is next.)
+#[derive(Clone, Copy, Debug, PartialEq, Eq)]
 pub enum NextPlace {
     Target,
     Through(Chan),
-}
-
-// What a table check answers.
-#[derive(Clone, Copy)]
-pub enum TableAnswer {
-    Passed,
-    Refused(u8),
-}
-
-// What the public route question answers: a refusal, or the next place.
-#[derive(Clone, Copy)]
-pub enum RouteAnswer {
-    Refused(u8),
-    Next(NextPlace),
 }

@@ -1,24 +1,37 @@
 -- The ladder holds the components: place 16k + a has the label of bus a over the first k bridges.
 -- A place is taken apart by / 16 and % 16; one level up is one bridge more.
-use Prim.Native.Nat.{ℕ, suc, ◌+◌, ◌-◌, ◌*◌, ◌/◌, ◌%◌, ◌<◌, ◌≤◌}
+use Prim.Native.Nat.{ℕ, zero, suc, ◌+◌, ◌-◌, ◌*◌, ◌/◌, ◌%◌, ◌<◌, ◌≤◌}
 use mathlib.Core.Path.{◌≡◌, refl, ap, sym, ◌∙◌}
 use mathlib.Core.Bool.{Bool, true, false, cond}
+use mathlib.Core.Logic.{⊎_elim}
 use mathlib.Core.List.{List}
+use native.Mathlib.Numerals.{add-one}
 use native.Mathlib.Omega.{arith}
 use borrow.Author.Tests.{lt-ltb, ltb-true, ltb-false}
 use lib.ListN.{length, get_or}
 use lib.Dec.{ltb}
 use Rattle.base.specs.Lists.{all, from_to}
+use Rattle.base.proofs.Logic.{split, less_or_same}
 use Rattle.base.proofs.Loops.{all_same}
 use Rattle.base.proofs.Made.{made, made_at}
 use Rattle.chassis.specs.declared.Bus.{Bus}
 use Rattle.chassis.specs.declared.Table.{Table}
 use Rattle.chassis.specs.Numbers.{bus, same_bus}
 use Rattle.chassis.specs.Channels.{first_bus, second_bus}
-use Rattle.chassis.specs.Routes.{relabel, component, loop_free, all_joined}
+use Rattle.chassis.specs.Routes.{relabel, component, closes_a_loop, loop_free, all_joined}
 use Rattle.check_tables.specs.Ladders.{InRange, places, label_at, ladder_of, share_label}
 use Rattle.chassis.proofs.Counts.{counts}
 use Rattle.chassis.proofs.Passing.{ends}
+
+-- a loop closed stays, whatever bridges follow
+loop_stays : (T : Table) (k n : ℕ) → k ≤ n → loop_free T k ≡ false → loop_free T n ≡ false
+unfolding loop_free
+loop_stays T k zero h f = let e : k ≡ 0 = omega arith in rw e at f
+loop_stays T k (suc n) h f =
+    ⊎_elim
+    (λ (l : k < suc n). split (closes_a_loop T n) (λ c. rw c) (λ c. rw c (loop_stays T k n (omega arith) f)))
+    (λ (e : k ≡ suc n). rw e at f)
+    (less_or_same k (suc n) h)
 
 module _ (T : Table) where
   label_by : (i k a : ℕ) → i / 16 ≡ k → i % 16 ≡ a → label_at T i ≡ (component T k (bus a)).0
@@ -99,19 +112,16 @@ module _ (T : Table) (ok : InRange T) where
   -- ---- the test for ground 27, by labels
 
   module _ (l : List ℕ) (e : l ≡ ladder_of T) where
-    module _ (k : ℕ) (n : 0 < k) (b : k ≤ T.bridges) where
-      by_last : loop_free T k ≡ cond (share_label l (k - 1) (first_bus T (k - 1)) (second_bus T (k - 1))) false (loop_free T (k - 1))
+    module _ (k : ℕ) (b : k < T.bridges) where
+      by_last : loop_free T (k + 1) ≡ cond (share_label l k (first_bus T k) (second_bus T k)) false (loop_free T k)
       unfolding loop_free
-      by_last =
-          let s : k ≡ suc (k - 1) = omega arith in
-          let j : k - 1 < T.bridges = omega arith in
-          ap (loop_free T) s ∙ rw (shares l (k - 1) (first_bus T (k - 1)) (second_bus T (k - 1)) e (omega arith) (first_low (k - 1) j) (second_low (k - 1) j))
+      by_last = rw add-one (rw (shares l k (first_bus T k) (second_bus T k) e (omega arith) (first_low k b) (second_low k b)))
 
-      pub closes : share_label l (k - 1) (first_bus T (k - 1)) (second_bus T (k - 1)) ≡ true → false ≡ loop_free T k
-      closes h = rw (by_last, h)
+      pub closes : share_label l k (first_bus T k) (second_bus T k) ≡ true → false ≡ loop_free T T.bridges
+      closes h = sym (loop_stays T (k + 1) T.bridges (omega arith) (rw (by_last, h)))
 
-      pub closes_not : share_label l (k - 1) (first_bus T (k - 1)) (second_bus T (k - 1)) ≡ false → loop_free T (k - 1) ≡ loop_free T k
-      closes_not h = rw (by_last, h)
+      pub closes_not : share_label l k (first_bus T k) (second_bus T k) ≡ false → loop_free T k ≡ true → loop_free T (k + 1) ≡ true
+      closes_not h f = rw (by_last, h, f)
 
     pub joined_by_labels : all (λ a. share_label l T.bridges (bus a) (bus 0)) (from_to 0 T.buses) ≡ all_joined T
     unfolding all_joined

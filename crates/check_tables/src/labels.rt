@@ -9,13 +9,11 @@ use chassis::{Bus, Table};
 fn relabelled(p: Bus, q: Bus, c: Bus) -> Bus
     ensures { result ≡ relabel p q c }
 {
-    if c.0 == q.0 {
-        return p;
-    }
-    c
+    if c == q { p } else { c }
 }
 
 // Level k + 1 is made of level k: bridge k joins two components.
+#[tactic(auto, using(crate::proofs::Levels::few_places, crate::proofs::Levels::bridge_below, crate::proofs::Levels::first_before, crate::proofs::Levels::second_before))]
 fn label(t: Table, l: &[u8; 256], i: usize) -> u8
     requires { InRange t × (i < places t) × ((j : ℕ) → j < i → get_or l.now j 0 ≡ label_at t j) }
     ensures { result ≡ label_at t i }
@@ -32,17 +30,16 @@ fn label(t: Table, l: &[u8; 256], i: usize) -> u8
     r.0
 }
 
+#[tactic(auto, using(crate::proofs::Levels::few_places))]
 pub fn ladder(t: Table) -> [u8; 256]
     requires { InRange t }
     ensures { result ≡ ladder_of t }
 {
     let mut l = [0; 256];
     let n = 16 * (t.bridges as usize + 1);
-    let mut i: usize = 0;
-    while i < n {
+    for i in 0..n {
         let v = label(t, &l, i);
         l[i] = v;
-        i += 1;
     }
     l
 }

@@ -1,15 +1,16 @@
 // A record's foot, and the conflict of two.
-ghost use Rattle.std.specs.Prelude.{◌≡◌, true, false};
+ghost use Rattle.std.specs.Prelude.{◌≡◌, true};
 ghost use Rattle.chassis.specs.Channels.{has_chan};
 ghost use Rattle.chassis.specs.Tables.{table_passes};
 ghost use Rattle.events.specs.Accounts.{account};
 ghost use Rattle.read_events.specs.Sights.{small};
-ghost use Rattle.ticks.specs.Conflicts.{clash};
-ghost use Rattle.compare_events.specs.Feet.{no_foot, begin_foot, bus_foot, take_foot, drop_foot, foot, footing_of, one_bus, one_beginner, one_name, dropped_tried, dropped_taken, dropped_both};
+ghost use Rattle.ticks.specs.Footings.{taken_from};
+ghost use Rattle.ticks.specs.Conflicts.{clash, drops_the_tried, drops_where_taken};
+ghost use Rattle.compare_events.specs.Feet.{no_foot, try_foot, drop_foot, foot, footing_of};
 
-use crate::Foot;
+use crate::{Foot, Name};
 use chassis::channels::{opposite, out_bus};
-use chassis::{Agent, Bus, Chan, NextPlace, Table};
+use chassis::{Chan, NextPlace, Table};
 use events::Event;
 use queue::{C, R, Transaction};
 
@@ -17,100 +18,84 @@ pub fn no_foot() -> Foot
     ensures { result ≡ no_foot }
 {
     Foot {
-        occurs: false,
-        bus: Bus(0),
-        begins: false,
-        master: Agent(0),
-        takes: false,
-        from: Chan(0),
-        tries: false,
-        drops: false,
-        kind: 0,
-        channel: Chan(0),
-        transaction: Transaction {
-            master: Agent(0),
-            number: 0,
-        },
+        bus: None,
+        beginner: None,
+        tries: None,
+        drops: None,
+        takes: None,
     }
 }
 
-// Kinds 1 to 3.
-fn begin_foot(m: Agent) -> Foot
-    ensures { result ≡ begin_foot m }
-{
-    let mut f = no_foot();
-    f.begins = true;
-    f.master = m;
-    f
-}
-
-// Kinds 4 to 7.
-fn bus_foot(t: Table, n: Chan, x: Transaction, tries: bool) -> Foot
+// Kinds 4, 6 and 7.
+fn try_foot(t: Table, n: Chan, x: Transaction, takes: Option<Chan>) -> Foot
     requires { (table_passes t ≡ true) × (has_chan t n ≡ true) }
-    ensures { result ≡ bus_foot t n x tries }
+    ensures { result ≡ try_foot t n x takes }
 {
-    let mut f = no_foot();
-    f.occurs = true;
-    f.bus = out_bus(t, n);
-    f.tries = tries;
-    f.kind = R;
-    f.channel = n;
-    f.transaction = x;
-    f
+    Foot {
+        bus: Some(out_bus(t, n)),
+        tries: Some(Name {
+            channel: n,
+            kind: R,
+            transaction: x,
+        }),
+        takes,
+        ..no_foot()
+    }
 }
 
 // A complete takes the matching C out of the opposite of N1, if N1 is a bridge channel.
-fn take_foot(t: Table, n: Chan, x: Transaction, next: NextPlace) -> Foot
-    requires { (table_passes t ≡ true) × (has_chan t n ≡ true) × small next }
-    ensures { result ≡ take_foot t n x next }
+fn taken_from(t: Table, next: NextPlace) -> Option<Chan>
+    requires { (table_passes t ≡ true) × small next }
+    ensures { result ≡ taken_from t next }
 {
-    let mut f = bus_foot(t, n, x, true);
     match next {
-        NextPlace::Target => f,
-        NextPlace::Through(c) => {
-            f.takes = true;
-            f.from = opposite(t, c);
-            f
-        }
+        NextPlace::Target => None,
+        NextPlace::Through(c) => Some(opposite(t, c)),
     }
 }
 
 // Kinds 8 and 9.
-fn drop_foot(kind: u8, n: Chan, x: Transaction) -> Foot
-    ensures { result ≡ drop_foot kind n x }
+fn drop_foot(kind: u8, channel: Chan, transaction: Transaction) -> Foot
+    ensures { result ≡ drop_foot kind channel transaction }
 {
-    let mut f = no_foot();
-    f.drops = true;
-    f.kind = kind;
-    f.channel = n;
-    f.transaction = x;
-    f
+    Foot {
+        drops: Some(Name {
+            channel,
+            kind,
+            transaction,
+        }),
+        ..no_foot()
+    }
 }
 
+#[tactic(auto, unfolding(crate::specs::Feet::foot))]
 pub fn foot_of(t: Table, e: Event, next: NextPlace) -> Foot
     requires { (table_passes t ≡ true) × (has_chan t (account e).channel ≡ true) × small next }
     ensures { result ≡ foot t e next }
 {
     match e {
-        Event::BeginPosted { master, target: _ } => begin_foot(master),
-        Event::BeginRead { master, target: _ } => begin_foot(master),
-        Event::BeginWrite { master, target: _ } => begin_foot(master),
+        Event::BeginPosted { master, .. }
+        | Event::BeginRead { master, .. }
+        | Event::BeginWrite { master, .. } => Foot {
+            beginner: Some(master),
+            ..no_foot()
+        },
         Event::Commit {
             channel,
             transaction,
-        } => bus_foot(t, channel, transaction, true),
-        Event::Post {
+        }
+        | Event::Latch {
             channel,
             transaction,
-        } => bus_foot(t, channel, transaction, false),
-        Event::Latch {
-            channel,
-            transaction,
-        } => bus_foot(t, channel, transaction, true),
+        } => try_foot(t, channel, transaction, None),
+        Event::Post { channel, .. } => Foot {
+            bus: Some(out_bus(t, channel)),
+            ..no_foot()
+        },
         Event::Complete {
             channel,
             transaction,
-        } => take_foot(t, channel, transaction, next),
+        } => try_foot(t, channel, transaction, taken_from(t, next)),
         Event::DropRequest {
             channel,
             transaction,
@@ -122,111 +107,30 @@ pub fn foot_of(t: Table, e: Event, next: NextPlace) -> Foot
     }
 }
 
-// (a)
-fn one_bus(e: Foot, f: Foot) -> bool
-    ensures { result ≡ one_bus e f }
+// (c), one way
+#[tactic(auto, unfolding(crate::specs::Feet::footing_of, ticks::specs::Conflicts::alike))]
+fn drops_the_tried(e: Foot, f: Foot) -> bool
+    ensures { result ≡ drops_the_tried (footing_of e) (footing_of f) }
 {
-    if !e.occurs {
-        return false;
-    }
-    if !f.occurs {
-        return false;
-    }
-    e.bus.0 == f.bus.0
+    e.drops.is_some() && e.drops == f.tries
 }
 
-// (b)
-fn one_beginner(e: Foot, f: Foot) -> bool
-    ensures { result ≡ one_beginner e f }
+// (d), one way
+#[tactic(auto, unfolding(crate::specs::Feet::footing_of, ticks::specs::Conflicts::alike))]
+fn drops_where_taken(e: Foot, f: Foot) -> bool
+    ensures { result ≡ drops_where_taken (footing_of e) (footing_of f) }
 {
-    if !e.begins {
-        return false;
-    }
-    if !f.begins {
-        return false;
-    }
-    e.master.0 == f.master.0
+    matches!((e.drops, f.takes), (Some(x), Some(n)) if x.kind == C && x.channel == n)
 }
 
-fn one_name(e: Foot, f: Foot) -> bool
-    ensures { result ≡ one_name e f }
-{
-    if e.channel.0 != f.channel.0 {
-        return false;
-    }
-    if e.kind != f.kind {
-        return false;
-    }
-    let x = e.transaction;
-    let y = f.transaction;
-    if x.master.0 != y.master.0 {
-        return false;
-    }
-    x.number == y.number
-}
-
-// (c)
-fn dropped_tried(e: Foot, f: Foot) -> bool
-    ensures { result ≡ dropped_tried e f }
-{
-    if !e.drops {
-        return false;
-    }
-    if !f.tries {
-        return false;
-    }
-    one_name(e, f)
-}
-
-// (d)
-fn dropped_taken(e: Foot, f: Foot) -> bool
-    ensures { result ≡ dropped_taken e f }
-{
-    if !e.drops {
-        return false;
-    }
-    if !f.takes {
-        return false;
-    }
-    if e.kind != 3 {
-        return false;
-    }
-    e.channel.0 == f.from.0
-}
-
-// (e)
-fn dropped_both(e: Foot, f: Foot) -> bool
-    ensures { result ≡ dropped_both e f }
-{
-    if !e.drops {
-        return false;
-    }
-    if !f.drops {
-        return false;
-    }
-    one_name(e, f)
-}
-
+// (a) to (e), one a line.
+#[tactic(auto, unfolding(crate::specs::Feet::footing_of, ticks::specs::Conflicts::alike, ticks::specs::Conflicts::clash))]
 pub fn clashes(e: Foot, f: Foot) -> bool
     ensures { result ≡ clash (footing_of e) (footing_of f) }
 {
-    if one_bus(e, f) {
-        return true;
-    }
-    if one_beginner(e, f) {
-        return true;
-    }
-    if dropped_tried(e, f) {
-        return true;
-    }
-    if dropped_tried(f, e) {
-        return true;
-    }
-    if dropped_taken(e, f) {
-        return true;
-    }
-    if dropped_taken(f, e) {
-        return true;
-    }
-    dropped_both(e, f)
+    (e.bus.is_some() && e.bus == f.bus)
+        || (e.beginner.is_some() && e.beginner == f.beginner)
+        || (drops_the_tried(e, f) || drops_the_tried(f, e))
+        || (drops_where_taken(e, f) || drops_where_taken(f, e))
+        || (e.drops.is_some() && e.drops == f.drops)
 }

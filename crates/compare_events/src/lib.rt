@@ -7,19 +7,21 @@ pub mod feet;
 use chassis::{Agent, Bus, Chan};
 use queue::Transaction;
 
-// What two events are compared by, in few bytes. A field counts only where the flag before it is up: kinds 4 to 7 occur on a bus,
-// kinds 1 to 3 begin, 4, 6 and 7 try the entry that is named below, 8 and 9 drop it, and a 7 may take a C out of a channel.
-#[derive(Clone, Copy)]
-pub struct Foot {
-    pub occurs: bool,
-    pub bus: Bus,
-    pub begins: bool,
-    pub master: Agent,
-    pub takes: bool,
-    pub from: Chan,
-    pub tries: bool,
-    pub drops: bool,
-    pub kind: u8,
+// An entry by its channel, kind (a number, as an entry's) and transaction.
+#[derive(Clone, Copy, Debug, PartialEq, Eq)]
+pub struct Name {
     pub channel: Chan,
+    pub kind: u8,
     pub transaction: Transaction,
+}
+
+// What two events are compared by: kinds 4 to 7 occur on a bus, kinds 1 to 3 begin, 4, 6 and 7 try an R, 8 and 9 drop an entry,
+// and a 7 may take a C out of a channel.
+#[derive(Clone, Copy, Debug, PartialEq, Eq)]
+pub struct Foot {
+    pub bus: Option<Bus>,
+    pub beginner: Option<Agent>,
+    pub tries: Option<Name>,
+    pub drops: Option<Name>,
+    pub takes: Option<Chan>,
 }

@@ -4,7 +4,6 @@ use Prim.Native.Nat.{ℕ, zero, suc, ◌<◌}
 use mathlib.Core.Path.{◌≡◌, refl, sym, ap, subst, ◌∙◌}
 use mathlib.Core.Bool.{Bool, true, false, not}
 use borrow.Author.Tests.{eq-eqb}
-use Rattle.base.specs.Lists.{only}
 use Rattle.base.proofs.Logic.{both}
 use Rattle.base.proofs.Cells.{In, in_found}
 use Rattle.chassis.specs.declared.Agent.{Agent}
@@ -13,7 +12,6 @@ use Rattle.chassis.specs.Routes.{bridges_between, way_channels, nth}
 use Rattle.queue.specs.declared.Transaction.{Transaction}
 use Rattle.queue.specs.declared.Entry.{Entry}
 use Rattle.queue.specs.Entries.{P, is_named}
-use Rattle.queue.specs.Queues.{stands}
 use Rattle.queue.proofs.Names.{one_is_same, is_named_so}
 use Rattle.network.specs.Nets.{Net, waiting}
 use Rattle.network.proofs.Good.{Good}

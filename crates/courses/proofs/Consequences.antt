@@ -7,7 +7,6 @@ use mathlib.Core.Path.{◌≡◌, refl, sym, ap, subst, ◌∙◌}
 use mathlib.Core.Bool.{Bool, true, false, not}
 use mathlib.Core.Logic.{⊎_elim}
 use mathlib.Core.List.{List}
-use Rattle.base.specs.Lists.{only}
 use Rattle.base.proofs.Logic.{split, both, less_or_same}
 use Rattle.base.proofs.Grounds.{clear}
 use Rattle.chassis.specs.declared.Agent.{Agent}

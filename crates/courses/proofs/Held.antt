@@ -6,7 +6,7 @@ use native.Mathlib.Nat.{le_refl}
 use mathlib.Core.Path.{◌≡◌, refl, sym, ap, ◌∙◌}
 use mathlib.Core.Bool.{Bool, true, false, ◌&&◌}
 use mathlib.Core.Logic.{⊎_elim}
-use mathlib.Core.Option.{some}
+use Rattle.std.specs.Prelude.{Some}
 use mathlib.Core.List.{List, [], ◌∷◌, ◌++◌, map}
 use borrow.Author.Tests.{eqb-true, eq-eqb, ne_eqb}
 use Rattle.base.specs.Lists.{find, alter, count, is_some}
@@ -40,11 +40,11 @@ pub record Found (N : Chan) (L : List Piece) (x : Entry) : Type 0 where
   pub here : piece.place ≡ N
   pub is : piece.entry ≡ x
 
-pub found_piece : (N : Chan) (p : Entry → Bool) (L : List Piece) {x : Entry} → find p (held_in N L) ≡ some x → Found N L x
+pub found_piece : (N : Chan) (p : Entry → Bool) (L : List Piece) {x : Entry} → find p (held_in N L) ≡ Some x → Found N L x
 unfolding held_in find
 found_piece N p [] {x} h = absurd (none_some {a = x} refl h)
 found_piece N p (q ∷ L) {x} h =
-    let on : find p (held_in N L) ≡ some x → Found N (q ∷ L) x = λ k. let r = found_piece N p L k in record { piece = r.piece; among = later r.among; here = r.here; is = r.is } in
+    let on : find p (held_in N L) ≡ Some x → Found N (q ∷ L) x = λ k. let r = found_piece N p L k in record { piece = r.piece; among = later r.among; here = r.here; is = r.is } in
     split (same_chan N q.place)
     (λ t. split (p q.entry)
     (λ y. let e : q.entry ≡ x = cc (rw (t, y) at h) in record { piece = q; among = first; here = chan_path (sym (eqb-true N.0 q.place.0 t)); is = e })

@@ -25,7 +25,7 @@ use Rattle.chassis.proofs.Along.{nth_once, nth_there}
 use Rattle.queue.specs.declared.Transaction.{Transaction}
 use Rattle.queue.specs.declared.Entry.{Entry}
 use Rattle.queue.specs.Entries.{P, is_of, is_named, gone}
-use Rattle.queue.specs.Queues.{stands, behind_P}
+use Rattle.queue.specs.Queues.{behind_P}
 use Rattle.queue.proofs.Plainly.{named_is_its_own}
 use Rattle.queue.proofs.Names.{one_is_same, is_named_so, is_either, of_second, held_back}
 use Rattle.network.specs.Nets.{Net, waiting, begun}
@@ -33,7 +33,7 @@ use Rattle.network.specs.Edits.{Edit, edit, edits}
 use Rattle.network.proofs.Good.{Good}
 use Rattle.events.specs.declared.Event.TheVariants.{BeginPosted, Post}
 use Rattle.events.specs.Grounds.{named_grounds, grounds, Accepted}
-use Rattle.events.specs.Effects.{enters, after}
+use Rattle.events.specs.Effects.{after}
 use Rattle.events.specs.Reached.{Reached}
 use Rattle.events.proofs.SoundStays.{reached_is_good}
 use Rattle.events.proofs.BeginNumbers as numbers

@@ -19,7 +19,6 @@ use Rattle.chassis.proofs.Along.{nth_once, never_turned}
 use Rattle.queue.specs.declared.Transaction.{Transaction}
 use Rattle.queue.specs.declared.Entry.{Entry}
 use Rattle.queue.specs.Entries.{P, R, C, is_of}
-use Rattle.queue.specs.Queues.{stands}
 use Rattle.network.specs.Nets.{Net, waiting}
 use Rattle.network.proofs.Good.{Good}
 use Rattle.courses.specs.Pieces.{Piece, piece, held_in}

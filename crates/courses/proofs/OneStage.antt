@@ -14,7 +14,6 @@ use Rattle.chassis.proofs.Along.{nth_once, opposite_once}
 use Rattle.queue.specs.declared.Transaction.{Transaction}
 use Rattle.queue.specs.declared.Entry.{Entry}
 use Rattle.queue.specs.Entries.{P, R}
-use Rattle.queue.specs.Queues.{stands}
 use Rattle.network.specs.Nets.{Net}
 use Rattle.network.proofs.Good.{Good}
 use Rattle.events.specs.Tests.{entry_at}

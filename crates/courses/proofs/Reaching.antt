@@ -4,7 +4,7 @@ use Prim.Native.Nat.{ℕ, ◌+◌}
 use native.Mathlib.Omega.{arith}
 use mathlib.Core.Path.{◌≡◌, refl, sym, ap, subst, subst⁻¹, ◌∙◌}
 use mathlib.Core.Bool.{Bool, true, false, ◌&&◌}
-use mathlib.Core.Option.{none}
+use Rattle.std.specs.Prelude.{None}
 use mathlib.Core.List.{List, [], ◌∷◌}
 use borrow.Author.Tests.{le-leb, lt-leb, leb-true, not-false, ltb-true}
 use lib.Dec.{leb}
@@ -76,7 +76,7 @@ module _ (s : Net) (g : Good s) (m a : Agent) where
 
   module _ (k : ℕ) (write : Bool) (h : Stage) (ends : standing T new (course a write h) ≡ piece (master_channel m) (entry_of new a write k false) ∷ [])
       (fits : Fits (bridges_between T m a) h) (begun-now : has_begun h ≡ true) where
-    begun_shows : (c : Course) → OnCourse s new c → refusal (begin_grounds s k m a) ≡ none
+    begun_shows : (c : Course) → OnCourse s new c → refusal (begin_grounds s k m a) ≡ None
         → Shows (edits (begins s k write m a) s) new (standing T new (course a write h))
     unfolding begin_grounds edits edit new_entry
     begun_shows c o ok =
@@ -89,7 +89,7 @@ module _ (s : Net) (g : Good s) (m a : Agent) where
         (shows_add s new [] (nothing_before c o) (master_channel m) y (omega (arith, g.channels)) (one_is_same {t = new} refl))
 
     begins_course : (c : Course) → OnCourse s new c → (e : Event) → BeginOf m a e → Accepted s e
-        → refusal (begin_grounds s k m a) ≡ none → effects s e ≡ begins s k write m a → OnCourse (after s e) new (course a write h)
+        → refusal (begin_grounds s k m a) ≡ None → effects s e ≡ begins s k write m a → OnCourse (after s e) new (course a write h)
     unfolding after
     begins_course c o e b ok ok' same =
         let n = its_number s g m a e b ok in

@@ -13,7 +13,7 @@ use Rattle.queue.specs.Entries.{P, R, C, is_of}
 use Rattle.network.specs.Nets.{Net, waiting, begun}
 use Rattle.events.specs.declared.Event.{Event}
 use Rattle.events.specs.declared.Event.TheVariants.{BeginPosted, BeginRead, BeginWrite, Commit, Latch, Complete, DropRequest}
-use Rattle.events.specs.Accounts.{account}
+use Rattle.events.specs.Accounts.{account, is_begin}
 use Rattle.events.specs.Effects.{next_number}
 use Rattle.courses.specs.Pieces.{Piece, piece, held_in}
 use Rattle.courses.specs.Stages.{Stage, unbegun, posted, asked, answered, ended, has_begun, Fits, Moves}
@@ -65,7 +65,7 @@ pub record OnCourse (s : Net) (t : Transaction) (c : Course) : Type 0 where
 -- a begin's is the one that it begins
 abbrev pub transaction_of : Net → Event → Transaction
 transaction_of s e =
-    cond (account e).begins
+    cond (is_begin e)
     (record { master = (account e).name.master; number = next_number s (account e).name.master })
     (account e).name
 

@@ -5,7 +5,7 @@ use native.Mathlib.Omega.{arith}
 use mathlib.Core.Path.{◌≡◌, refl, sym, ap, subst⁻¹, ◌∙◌}
 use mathlib.Core.Bool.{Bool, true, false, ◌&&◌}
 use mathlib.Core.List.{List, [], ◌∷◌, ◌++◌}
-use mathlib.Core.Option.{none}
+use Rattle.std.specs.Prelude.{None, Some, Ok}
 use borrow.Author.Tests.{ltb-true, not-false}
 use Rattle.base.specs.Grounds.{refusal}
 use Rattle.base.proofs.Logic.{and_true}
@@ -25,11 +25,8 @@ use Rattle.network.proofs.Packing.{view_pack}
 use Rattle.network.proofs.Good.{Good, sound_is_good}
 use Rattle.events.specs.declared.Event.{Event}
 use Rattle.events.specs.declared.Event.TheVariants.{BeginPosted, BeginRead, BeginWrite}
-use Rattle.events.specs.declared.Decoded.{Decoded}
-use Rattle.events.specs.declared.Decoded.TheVariants.{Known}
-use Rattle.events.specs.declared.Answer.TheVariants as answer
 use Rattle.events.specs.declared.Outcome.{Outcome}
-use Rattle.events.specs.Records.{decoded}
+use Rattle.events.specs.Records.{decoded, Decoded}
 use Rattle.events.specs.Grounds.{begin_grounds, grounds, Accepted}
 use Rattle.events.specs.Effects.{next_number, new_entry, begins, effects, value, after}
 use Rattle.events.proofs.WrongModels.{Model, Handed, MeetsStep}
@@ -53,7 +50,7 @@ pub record Numbered (s : Net) (m : Agent) (v : ℕ) (t : Net) : Type 0 where
 -- ---- one law for the three begins
 
 module _ (s : Net) (g : Good s) (m : Agent) where
-  begin_numbers : (k : ℕ) (write : Bool) (a : Agent) → refusal (begin_grounds s k m a) ≡ none → Numbered s m (next_number s m) (edits (begins s k write m a) s)
+  begin_numbers : (k : ℕ) (write : Bool) (a : Agent) → refusal (begin_grounds s k m a) ≡ None → Numbered s m (next_number s m) (edits (begins s k write m a) s)
   unfolding begin_grounds edits edit new_entry
   begin_numbers k write a ok =
       let r = clear (begin_grounds s k m a) ok in
@@ -77,11 +74,11 @@ module _ (s : Net) (g : Good s) (m : Agent) where
 
 -- ---- of every model
 
-known_once : (d : Decoded) (e f : Event) → d ≡ Known e → d ≡ Known f → f ≡ e
+known_once : (d : Decoded) (e f : Event) → d ≡ Some e → d ≡ Some f → f ≡ e
 known_once d e f p q = cc
 
-pub no_model_invents_numbers : (f : Model) → MeetsStep f → (s : State) (b : List ℕ) (m a : Agent) (e : Event) (v : ℕ) → Handed s b → decoded b ≡ Known e → BeginOf m a e
-    → (f s b).answer ≡ answer.Accepted v → Numbered (view s) m v (view (f s b).state)
+pub no_model_invents_numbers : (f : Model) → MeetsStep f → (s : State) (b : List ℕ) (m a : Agent) (e : Event) (v : ℕ) → Handed s b → decoded b ≡ Some e → BeginOf m a e
+    → (f s b).answer ≡ Ok v → Numbered (view s) m v (view (f s b).state)
 no_model_invents_numbers f meets s b m a e v w d k h =
     let p = meets s b w in
     let t = taken s b v (ap (λ (o : Outcome). o.answer) (sym p) ∙ h) in

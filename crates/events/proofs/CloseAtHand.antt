@@ -2,7 +2,7 @@
 use Prim.Native.Nat.{ℕ}
 use mathlib.Core.Path.{◌≡◌, subst}
 use mathlib.Core.Bool.{Bool, false, not, ◌&&◌}
-use mathlib.Core.Option.{some}
+use Rattle.std.specs.Prelude.{Some}
 use borrow.Author.Tests.{not-false}
 use Rattle.base.specs.Lists.{find, is_some, or_else}
 use Rattle.base.proofs.Logic.{or_false}
@@ -44,13 +44,13 @@ module _ (s : Net) (N : Chan) (t : Transaction) (X : Chan) (next : ahead s R N t
 
   -- a completion is taken by its originating master alone: the one that is taken is the oldest of this transaction, master and number
   pub no_completion_is_stolen : Accepted s (Complete N t)
-      → (c : Entry) × (matching C request (waiting s back) ≡ some c) × (oldest C t (waiting s back) ≡ some c) × (c.transaction ≡ t)
+      → (c : Entry) × (matching C request (waiting s back) ≡ Some c) × (oldest C t (waiting s back) ≡ Some c) × (c.transaction ≡ t)
   unfolding grounds named_grounds
   no_completion_is_stolen ok =
       let r = clear (grounds s (Complete N t)) ok in
       let h = not-false (answered s request X) (rw next at r.1.1.1.0) in
       let c = is_there (matching C request (waiting s back)) h in
-      let o = subst (λ (p : Entry → Bool). find p (waiting s back) ≡ some c.0) (by_name C r.1.0) c.1 in
+      let o = subst (λ (p : Entry → Bool). find p (waiting s back) ≡ Some c.0) (by_name C r.1.0) c.1 in
       (c.0, c.1, o, (named_is_its_own C t c.0 (found_passes (is_named C t) (waiting s back) o)).1)
 
   -- nothing is latched again while its C waits on the opposite side, nor while it stands ahead

@@ -5,7 +5,7 @@ use native.Mathlib.Omega.{arith}
 use mathlib.Core.Path.{◌≡◌, refl, sym, ap, subst⁻¹, ◌∙◌}
 use mathlib.Core.Bool.{Bool, true, false, cond, not, ◌&&◌}
 use mathlib.Core.List.{List, [], ◌∷◌, ◌++◌}
-use mathlib.Core.Option.{some}
+use Rattle.std.specs.Prelude.{Some, Ok}
 use borrow.Author.Tests.{ltb-true, eq-eqb, ne_eqb, not-false}
 use lib.ListN.{length, get_or, length-append}
 use Rattle.base.specs.Lists.{find, alter, count, modify, or_else}
@@ -37,7 +37,6 @@ use Rattle.network.proofs.Packing.{view_pack}
 use Rattle.network.proofs.Good.{Good, sound_is_good}
 use Rattle.events.specs.declared.Event.{Event}
 use Rattle.events.specs.declared.Event.TheVariants.{BeginPosted, BeginRead, BeginWrite, Commit, Post, Latch, Complete, DropRequest, DropCompletion}
-use Rattle.events.specs.declared.Answer.TheVariants as answer
 use Rattle.events.specs.declared.Outcome.{Outcome}
 use Rattle.events.specs.Tests.{entry_at, ahead, is_target, no_such_entry}
 use Rattle.events.specs.Grounds.{named_grounds, grounds, Accepted}
@@ -50,7 +49,7 @@ use Rattle.events.proofs.BeginNumbers.{BeginOf, posted, read, written, its_numbe
 
 module _ {A : Type 0} (p : A → Bool) where
   -- the one that gives way passed, and what it gives way to does not
-  one_fewer : (q : A → Bool) (f : A → List A) (l : List A) {x : A} → find q l ≡ some x → p x ≡ true → count p (f x) ≡ 0 → suc (count p (alter q f l)) ≡ count p l
+  one_fewer : (q : A → Bool) (f : A → List A) (l : List A) {x : A} → find q l ≡ Some x → p x ≡ true → count p (f x) ≡ 0 → suc (count p (alter q f l)) ≡ count p l
   unfolding find alter count
   one_fewer q f [] {x} h y z = absurd (none_some {a = x} refl h)
   one_fewer q f (a ∷ l) {x} h y z =
@@ -80,12 +79,12 @@ abbrev passing : (Entry → Bool) → Chan → Net → ℕ
 passing p N u = count p (waiting u N)
 
 module _ (s : Net) (N : Chan) (t : Transaction) where
-  named : (k : ℕ) → no_such_entry s k N t ≡ false → (x : Entry) × (oldest k t (waiting s N) ≡ some x) × (is_kind k x ≡ true)
+  named : (k : ℕ) → no_such_entry s k N t ≡ false → (x : Entry) × (oldest k t (waiting s N) ≡ Some x) × (is_kind k x ≡ true)
   named k h =
       let o = is_there (oldest k t (waiting s N)) (not-false (stands k t (waiting s N)) h) in
       (o.0, o.1, eq-eqb o.0.kind k (named_is_its_own k t o.0 (found_passes (is_named k t) (waiting s N) o.1)).0)
 
-  changed : (p : Entry → Bool) (k : ℕ) (f : Entry → List Entry) (x : Entry) → oldest k t (waiting s N) ≡ some x → p x ≡ true → count p (f x) ≡ 0
+  changed : (p : Entry → Bool) (k : ℕ) (f : Entry → List Entry) (x : Entry) → oldest k t (waiting s N) ≡ Some x → p x ≡ true → count p (f x) ≡ 0
       → suc (passing p N (edit (change N (is_named k t) f) s)) ≡ passing p N s
   unfolding edit
   changed p k f x o y z =
@@ -230,7 +229,7 @@ module _ (s : Net) (g : Good s) where
 
 -- ---- of every model
 
-pub every_accepted_step_moves : (f : Model) → MeetsStep f → (s : State) (b : List ℕ) (v : ℕ) → Handed s b → (f s b).answer ≡ answer.Accepted v → (f s b).state ≡ s → ⊥
+pub every_accepted_step_moves : (f : Model) → MeetsStep f → (s : State) (b : List ℕ) (v : ℕ) → Handed s b → (f s b).answer ≡ Ok v → (f s b).state ≡ s → ⊥
 every_accepted_step_moves f meets s b v w h same =
     let p = meets s b w in
     let t = taken s b v (ap (λ (o : Outcome). o.answer) (sym p) ∙ h) in

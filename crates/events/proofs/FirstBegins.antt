@@ -5,7 +5,7 @@ use native.Mathlib.Omega.{arith}
 use mathlib.Core.Path.{◌≡◌, ap, subst⁻¹, ◌∙◌}
 use mathlib.Core.Bool.{Bool, true, false}
 use mathlib.Core.List.{List, [], ◌∷◌}
-use mathlib.Core.Option.{none}
+use Rattle.std.specs.Prelude.{None, Some, Ok}
 use borrow.Author.Tests.{leb-true, lt-leb}
 use lib.ListN.{length, get_or}
 use lib.Dec.{ltb, leb}
@@ -26,8 +26,6 @@ use Rattle.network.specs.Nets.{Net, view, pack, empty_net, full}
 use Rattle.network.proofs.Packing.{view_pack, empty_waits, empty_begun}
 use Rattle.network.proofs.Good.{Arrays, empty_is_sound, empty_is_shaped}
 use Rattle.events.specs.declared.Event.{Event}
-use Rattle.events.specs.declared.Decoded.TheVariants.{Known}
-use Rattle.events.specs.declared.Answer.TheVariants as answer
 use Rattle.events.specs.declared.Outcome.{Outcome}
 use Rattle.events.specs.Records.{decoded}
 use Rattle.events.specs.Grounds.{begin_grounds, grounds, Accepted}
@@ -56,7 +54,7 @@ module _ (T : Table) (w : Arrays T) (passes : table_passes T ≡ true) where
   room k m h = ap (is_full (room_for T k m)) (empty_waits T (master_channel m)) ∙ lt-leb (limit T k) 0 (omega (arith, at_least_1 k h))
 
   module _ (m a : Agent) (hm : has_agent T m ≡ true) (ha : has_agent T a ≡ true) (d : same_agent m a ≡ false) where
-    no_ground : (k : ℕ) → k - 1 < 3 → refusal (begin_grounds (empty_net T) k m a) ≡ none
+    no_ground : (k : ℕ) → k - 1 < 3 → refusal (begin_grounds (empty_net T) k m a) ≡ None
     unfolding begin_grounds empty_net
     no_ground k h =
         unclear (begin_grounds (empty_net T) k m a)
@@ -74,8 +72,8 @@ module _ (T : Table) (w : Arrays T) (passes : table_passes T ≡ true) where
     first_number _ read = ap (λ (n : ℕ). n + 1) (empty_begun T m)
     first_number _ written = ap (λ (n : ℕ). n + 1) (empty_begun T m)
 
-    pub first_begins_are_accepted : (f : Model) → MeetsStep f → (b : List ℕ) (e : Event) → all (λ n. ltb n 256) b ≡ true → length b ≡ 8 → decoded b ≡ Known e → BeginOf m a e
-        → (f (pack (empty_net T)) b).answer ≡ answer.Accepted 1
+    pub first_begins_are_accepted : (f : Model) → MeetsStep f → (b : List ℕ) (e : Event) → all (λ n. ltb n 256) b ≡ true → length b ≡ 8 → decoded b ≡ Some e → BeginOf m a e
+        → (f (pack (empty_net T)) b).answer ≡ Ok 1
     first_begins_are_accepted f meets b e bytes l k begin =
         let s = pack (empty_net T) in
         let v = view_pack (empty_net T) in
@@ -83,4 +81,4 @@ module _ (T : Table) (w : Arrays T) (passes : table_passes T ≡ true) where
         let n : value (view s) e ≡ 1 = ap (λ (n : Net). value n e) v ∙ first_number e begin in
         let r = meets s b (record { shaped = empty_is_shaped T w passes; bytes = bytes })
         ∙ step_is s b (empty_is_sound T passes) l ∙ ap (record_step s) k ∙ inner_is s e ok in
-        ap (λ (o : Outcome). o.answer) r ∙ ap (λ (n : ℕ). answer.Accepted n) n
+        ap (λ (o : Outcome). o.answer) r ∙ ap (λ (n : ℕ). Ok n) n

@@ -3,7 +3,7 @@
 use Prim.Native.Nat.{ℕ, ◌+◌}
 use mathlib.Core.Path.{◌≡◌, refl, sym, subst⁻¹, ◌∙◌}
 use mathlib.Core.Bool.{Bool, true, false, cond, not, ◌&&◌, ◌||◌}
-use mathlib.Core.Option.{Option, none}
+use Rattle.std.specs.Prelude.{Option, None}
 use mathlib.Core.List.{List, [], ◌∷◌, ◌++◌}
 use native.Mathlib.Omega.{arith}
 use borrow.Author.Tests.{ltb-true, le-leb, leb-false, not-false, ne_eqb}
@@ -95,7 +95,7 @@ module _ (s : Net) (g : Good s) where
           mark = true_or (eqb k R) true refl;
         }
 
-    begin_keeps : refusal (begin_grounds s k m a) ≡ none → Good (edits (begins s k write m a) s)
+    begin_keeps : refusal (begin_grounds s k m a) ≡ None → Good (edits (begins s k write m a) s)
     unfolding begin_grounds edits edit new_entry
     begin_keeps ok =
         let r = clear (begin_grounds s k m a) ok in

@@ -1,4 +1,5 @@
 -- What a block's record is read as says what its eight bytes say; and its kind is its first byte.
+use Rattle.std.specs.Prelude.{Some, None}
 use Prim.Native.Nat.{ℕ, ◌+◌, ◌*◌, ◌<◌}
 use mathlib.Core.Path.{◌≡◌, refl, ap, sym, ◌∙◌}
 use mathlib.Core.Bool.{Bool, cond}
@@ -13,9 +14,7 @@ use Rattle.chassis.specs.declared.Agent.{Agent}
 use Rattle.chassis.specs.declared.Chan.{Chan}
 use Rattle.chassis.specs.Numbers.{agent, chan}
 use Rattle.queue.specs.declared.Transaction.{Transaction}
-use Rattle.events.specs.declared.Decoded.{Decoded}
-use Rattle.events.specs.declared.Decoded.TheVariants.{Known, Unfit}
-use Rattle.events.specs.Records.{byte, decoded, begin_event, named_event, begin_unused_zero, other_unused_zero, transaction_in, kind_number}
+use Rattle.events.specs.Records.{byte, decoded, begin_event, named_event, begin_unused_zero, other_unused_zero, transaction_in, kind_number, Decoded}
 use Rattle.events.specs.Reads.{read_as, read_at, decoded_of, block_of, place_of, kind_byte}
 
 -- the first byte of record i
@@ -27,12 +26,12 @@ first_byte i r =
 
 module _ (block place kind : ℕ) where
   says : (d : Decoded) → decoded_of (read_as block place kind d) ≡ d
-  says (Known e) = refl
-  says Unfit = refl
+  says (Some e) = refl
+  says None = refl
 
   stands : (d : Decoded) → (block_of (read_as block place kind d) ≡ block) × (place_of (read_as block place kind d) ≡ place)
-  stands (Known e) = (refl, refl)
-  stands Unfit = (refl, refl)
+  stands (Some e) = (refl, refl)
+  stands None = (refl, refl)
 
 pub read_says : (block place : ℕ) (b : List ℕ) → decoded_of (read_at block place b) ≡ decoded b
 unfolding read_at
@@ -46,8 +45,8 @@ read_stands block place b = stands block place (byte b 0) (decoded b)
 
 -- a record whose kind, where it is an event, is k
 abbrev Kind : ℕ → Decoded → Type 0
-Kind k (Known e) = kind_number e ≡ k
-Kind k Unfit = Unit {0}
+Kind k (Some e) = kind_number e ≡ k
+Kind k None = Unit {0}
 
 if_kind : (k n : ℕ) (d e : Decoded) → (k ≡ n → Kind k d) → Kind k e → Kind k (cond (eqb k n) d e)
 if_kind k n d e p q =
@@ -75,8 +74,8 @@ decoded_kind b =
     (if_either (byte b 0) (other_unused_zero b) _ _ (named_kind (byte b 0) (chan (byte b 1)) (transaction_in b)) tt)
 
 its_kind : (block place k : ℕ) (d : Decoded) → Kind k d → kind_byte (read_as block place k d) ≡ k
-its_kind block place k (Known e) h = h
-its_kind block place k Unfit h = refl
+its_kind block place k (Some e) h = h
+its_kind block place k None h = refl
 
 pub kind_is_first_byte : (block place : ℕ) (b : List ℕ) → kind_byte (read_at block place b) ≡ byte b 0
 unfolding read_at

@@ -3,7 +3,8 @@
 use Prim.Native.Nat.{ℕ}
 use mathlib.Core.Path.{◌≡◌, refl, subst⁻¹, ◌∙◌}
 use mathlib.Core.Bool.{true}
-use mathlib.Core.Option.{Option, none, some}
+use Rattle.std.specs.Prelude.{Option, None, Some}
+use Rattle.base.specs.declared.Refusal.{Refusal}
 use mathlib.Core.List.{List, [], ◌∷◌}
 use borrow.Author.Tests.{eq-eqb}
 use lib.ListN.{length}
@@ -16,10 +17,8 @@ use Rattle.network.specs.Shapes.{Shaped}
 use Rattle.network.specs.Edits.{Edit, add, change, raise, edit, edits}
 use Rattle.network.proofs.Good.{Good, Arrays, good_is_sound, sound_is_good, good_is_shaped, empty_is_good}
 use Rattle.events.specs.declared.Event.{Event}
-use Rattle.events.specs.declared.Decoded.{Decoded}
-use Rattle.events.specs.declared.Decoded.TheVariants.{Known, Unfit}
 use Rattle.events.specs.declared.Outcome.{Outcome}
-use Rattle.events.specs.Records.{decoded}
+use Rattle.events.specs.Records.{decoded, Decoded}
 use Rattle.events.specs.Grounds.{grounds, Accepted}
 use Rattle.events.specs.Effects.{effects, after}
 use Rattle.events.specs.Steps.{unless, inner_step, step_on, record_step, step_grounds, step}
@@ -77,9 +76,9 @@ module _ (s : State) (w : Shaped s) (h : sound s ≡ true) where
   right = record { shaped = w; is_sound = h }
 
   -- a refusal leaves the state
-  unless_right : (o : Option ℕ) (c : Outcome) → (o ≡ none → Right c.state) → Right (unless o s c).state
-  unless_right none c r = r refl
-  unless_right (some n) c r = right
+  unless_right : (o : Option Refusal) (c : Outcome) → (o ≡ None → Right c.state) → Right (unless o s c).state
+  unless_right None c r = r refl
+  unless_right (Some n) c r = right
 
   pub inner_step_right : (e : Event) → Right (inner_step s e).state
   unfolding inner_step
@@ -88,8 +87,8 @@ module _ (s : State) (w : Shaped s) (h : sound s ≡ true) where
       (λ ok. record { shaped = shaped_stays_shaped e ok; is_sound = sound_stays_sound e ok })
 
   pub record_step_right : (d : Decoded) → Right (record_step s d).state
-  record_step_right Unfit = right
-  record_step_right (Known e) = inner_step_right e
+  record_step_right None = right
+  record_step_right (Some e) = inner_step_right e
 
   pub step_right : (b : List ℕ) → Right (step s b).state
   unfolding step
@@ -107,6 +106,6 @@ unfolding step step_grounds
 step_is s b h l = rw (h, eq-eqb (length b) 8 l)
 
 -- in any state, eight bytes that are an event are that event's step
-pub step_on_record : (s : State) (b : List ℕ) (e : Event) → length b ≡ 8 → decoded b ≡ Known e → step s b ≡ step_on s e
+pub step_on_record : (s : State) (b : List ℕ) (e : Event) → length b ≡ 8 → decoded b ≡ Some e → step s b ≡ step_on s e
 unfolding step step_on step_grounds
 step_on_record s b e l d = split (sound s) (λ h. rw (h, eq-eqb (length b) 8 l, d)) (λ h. rw h)

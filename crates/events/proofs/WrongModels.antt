@@ -1,6 +1,10 @@
 -- Wrong models, shut out by name: one refuses everything, one has a constant reply, one accepts and moves nothing, one invents begin numbers.
 -- Each is said as a property; on one computed state no function that meets the step's statement has it. The begin's number is a law of every state.
+use Rattle.std.specs.Prelude.{Ok, Err}
+use Rattle.base.proofs.Grounds.{refused_not}
+use Rattle.base.specs.declared.Refusal.{Refusal}
 use Prim.Native.Nat.{ℕ}
+use Rattle.base.specs.declared.Refusal.TheVariants.{UnfitRecord, NotRecords}
 use native.Mathlib.Omega.{arith}
 use mathlib.Core.Path.{◌≡◌, refl, sym, ap, ◌∙◌}
 use mathlib.Core.Bool.{true}
@@ -23,13 +27,11 @@ use Rattle.network.specs.Shapes.{no_channel, Shaped}
 use Rattle.network.specs.Soundness as Soundness
 use Rattle.network.specs.Edits.{edit, edits}
 use Rattle.network.proofs.Good.{empty_is_shaped}
-use Rattle.events.specs.declared.Answer.{Answer}
-use Rattle.events.specs.declared.Answer.TheVariants as answer
 use Rattle.events.specs.declared.Outcome.{Outcome}
 use Rattle.events.specs.Records.{decoded}
 use Rattle.events.specs.Grounds.{begin_grounds, named_grounds, grounds}
 use Rattle.events.specs.Effects.{new_entry, effects, value, after}
-use Rattle.events.specs.Steps.{inner_step, step_grounds, step}
+use Rattle.events.specs.Steps.{inner_step, step_grounds, step, Answer}
 
 abbrev pub Model : Type 0
 Model = State → List ℕ → Outcome
@@ -72,8 +74,8 @@ begun_by_0 s = get_or s.begins 0 0
 
 record Computed : Type 0 where
   passes : table_passes one_bus ≡ true
-  begins : (step at_rest posts).answer ≡ answer.Accepted 1
-  no_record : (step at_rest []).answer ≡ answer.Refused 18
+  begins : (step at_rest posts).answer ≡ Ok 1
+  no_record : (step at_rest []).answer ≡ Err NotRecords
   enters : in_channel_0 (step at_rest posts).state ≡ 1
   counts : begun_by_0 (step at_rest posts).state ≡ 1
   empty : in_channel_0 at_rest ≡ 0
@@ -95,7 +97,7 @@ unfolding all
 second = record { shaped = shaped; bytes = refl }
 
 -- what a model that meets the statement answers to both
-answers : (f : Model) → MeetsStep f → ((f at_rest posts).answer ≡ answer.Accepted 1) × ((f at_rest []).answer ≡ answer.Refused 18)
+answers : (f : Model) → MeetsStep f → ((f at_rest posts).answer ≡ Ok 1) × ((f at_rest []).answer ≡ Err NotRecords)
 answers f m = (
   ap (λ (o : Outcome). o.answer) (m at_rest posts first) ∙ computed.begins,
   ap (λ (o : Outcome). o.answer) (m at_rest [] second) ∙ computed.no_record,
@@ -104,13 +106,13 @@ answers f m = (
 -- ---- it refuses everything
 
 abbrev pub RefusesEverything : Model → Type 0
-RefusesEverything f = (s : State) (b : List ℕ) → Handed s b → (n : ℕ) × ((f s b).answer ≡ answer.Refused n)
+RefusesEverything f = (s : State) (b : List ℕ) → Handed s b → (n : Refusal) × ((f s b).answer ≡ Err n)
 
-pub refused_accepted : (n v : ℕ) → answer.Refused n ≡ answer.Accepted v → ⊥
-refused_accepted n v e = let z : ◌≡◌ {A = ℕ} 0 1 = cc in omega arith
+pub refused_accepted : (n : Refusal) (v : ℕ) → Err n ≡ Ok v → ⊥
+refused_accepted n v e = refused_not n v e
 
-pub refusing : RefusesEverything (λ s b. record { answer = answer.Refused 1; state = s })
-refusing s b w = (1, refl)
+pub refusing : RefusesEverything (λ s b. record { answer = Err UnfitRecord; state = s })
+refusing s b w = (UnfitRecord, refl)
 
 -- refuted at one state; `first_begins_are_accepted` (FirstBegins) says on every table what is accepted, `no_ground_accepts` (RefusedExactly) in every state
 pub no_model_refuses_everything : (f : Model) → MeetsStep f → RefusesEverything f → ⊥
@@ -126,7 +128,7 @@ HasOneReply f = (a : Answer) × ((s : State) (b : List ℕ) → Handed s b → (
 -- refuted at two inputs; `a_ground_refuses` and `no_ground_accepts` (RefusedExactly) say for every input which reply it has
 pub no_model_has_one_reply : (f : Model) → MeetsStep f → HasOneReply f → ⊥
 no_model_has_one_reply f m r =
-    refused_accepted 18 1 (sym (answers f m).1 ∙ r.1 at_rest [] second ∙ sym (r.1 at_rest posts first) ∙ (answers f m).0)
+    refused_accepted NotRecords 1 (sym (answers f m).1 ∙ r.1 at_rest [] second ∙ sym (r.1 at_rest posts first) ∙ (answers f m).0)
 
 pub replying : (a : Answer) → HasOneReply (λ s b. record { answer = a; state = s })
 replying a = (a, λ s b w. refl)
@@ -141,7 +143,7 @@ no_model_has_one_outcome f m r = no_model_has_one_reply f m (r.0.answer, λ s b 
 -- ---- it accepts and moves nothing
 
 abbrev pub MovesNothing : Model → Type 0
-MovesNothing f = (s : State) (b : List ℕ) (v : ℕ) → Handed s b → (f s b).answer ≡ answer.Accepted v → (f s b).state ≡ s
+MovesNothing f = (s : State) (b : List ℕ) (v : ℕ) → Handed s b → (f s b).answer ≡ Ok v → (f s b).state ≡ s
 
 pub standing_still : MovesNothing (λ s b. record { answer = (step s b).answer; state = s })
 standing_still s b v w h = refl

@@ -1,9 +1,9 @@
 -- What the nine kinds have in common, one line a kind: the channel, the name and the kind of entry that an event speaks of, whether it
 -- begins a transaction, and whether it asks for the next place.
-use Rattle.std.specs.Prelude.{ℕ, Bool, true, false}
+use Rattle.std.specs.Prelude.{ℕ, Bool, true, false, None, Some}
+use Rattle.base.specs.Lists.{is_some}
 use Rattle.chassis.specs.declared.Agent.{Agent}
 use Rattle.chassis.specs.declared.Chan.{Chan}
-use Rattle.chassis.specs.Numbers.{agent}
 use Rattle.chassis.specs.Channels.{master_channel}
 use Rattle.queue.specs.declared.Transaction.{Transaction}
 use Rattle.queue.specs.Entries.{P, R, C}
@@ -16,9 +16,8 @@ abbrev pub begins_with : ℕ → Agent → Agent → Account
 begins_with k m a = record {
   channel = master_channel m;
   name = record { master = m; number = 0 };
-  target = a;
+  target = Some a;
   kind = k;
-  begins = true;
   moves = false;
 }
 
@@ -27,9 +26,8 @@ abbrev pub names : ℕ → Chan → Transaction → Bool → Account
 names k N t moves = record {
   channel = N;
   name = t;
-  target = agent 0;
+  target = None;
   kind = k;
-  begins = false;
   moves = moves;
 }
 
@@ -44,3 +42,7 @@ account (Latch N t) = names R N t true
 account (Complete N t) = names R N t true
 account (DropRequest N t) = names R N t false
 account (DropCompletion N t) = names C N t false
+
+-- kinds 1 to 3: only a begin has a target
+abbrev pub is_begin : Event → Bool
+is_begin e = is_some (account e).target

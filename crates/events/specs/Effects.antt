@@ -13,7 +13,7 @@ use Rattle.network.specs.Nets.{Net, begun}
 use Rattle.network.specs.Edits.{Edit, add, change, raise, edits}
 use Rattle.events.specs.declared.Event.{Event}
 use Rattle.events.specs.declared.Event.TheVariants.{BeginPosted, BeginRead, BeginWrite, Commit, Post, Latch, Complete, DropRequest, DropCompletion}
-use Rattle.events.specs.Accounts.{account}
+use Rattle.events.specs.Accounts.{account, is_begin}
 use Rattle.events.specs.Tests.{entry_at, ahead}
 
 -- the number that a begin gives
@@ -70,7 +70,7 @@ effects s (DropCompletion N t) = leaves C N t ∷ []
 
 -- the new number for kinds 1 to 3, otherwise 0
 unfoldable pub value : Net → Event → ℕ
-value s e = cond (account e).begins (next_number s (account e).name.master) 0
+value s e = cond (is_begin e) (next_number s (account e).name.master) 0
 
 -- the next state
 unfoldable pub after : Net → Event → Net

@@ -1,5 +1,5 @@
 -- Eight record bytes to an event, and ground 1: kind, channel, master, target, number (two bytes, low first), two zero bytes.
-use Rattle.std.specs.Prelude.{ℕ, ◌+◌, ◌*◌, ◌/◌, Bool, cond, ◌&&◌, List, map, length, get_or, eqb, ltb}
+use Rattle.std.specs.Prelude.{ℕ, ◌+◌, ◌*◌, ◌/◌, Bool, cond, ◌&&◌, List, map, length, get_or, eqb, ltb, Some, None, Option}
 use Rattle.base.specs.Lists.{parts}
 use Rattle.chassis.specs.declared.Agent.{Agent}
 use Rattle.chassis.specs.declared.Chan.{Chan}
@@ -7,8 +7,10 @@ use Rattle.chassis.specs.Numbers.{agent, chan}
 use Rattle.queue.specs.declared.Transaction.{Transaction}
 use Rattle.events.specs.declared.Event.{Event}
 use Rattle.events.specs.declared.Event.TheVariants.{BeginPosted, BeginRead, BeginWrite, Commit, Post, Latch, Complete, DropRequest, DropCompletion}
-use Rattle.events.specs.declared.Decoded.{Decoded}
-use Rattle.events.specs.declared.Decoded.TheVariants.{Known, Unfit}
+
+-- what eight record bytes say: an event, or, of a record that is none, nothing (ground 1)
+abbrev pub Decoded : Type 0
+Decoded = Option Event
 
 -- byte i of a record
 abbrev pub byte : List ℕ → ℕ → ℕ
@@ -30,21 +32,21 @@ other_unused_zero b = eqb (byte b 3) 0 && rest_is_zero b
 -- kinds 1 to 3
 abbrev pub begin_event : ℕ → Agent → Agent → Decoded
 begin_event k m a =
-    cond (eqb k 1) (Known (BeginPosted m a))
-    (cond (eqb k 2) (Known (BeginRead m a))
-    (cond (eqb k 3) (Known (BeginWrite m a))
-    Unfit))
+    cond (eqb k 1) (Some (BeginPosted m a))
+    (cond (eqb k 2) (Some (BeginRead m a))
+    (cond (eqb k 3) (Some (BeginWrite m a))
+    None))
 
 -- kinds 4 to 9
 abbrev pub named_event : ℕ → Chan → Transaction → Decoded
 named_event k N t =
-    cond (eqb k 4) (Known (Commit N t))
-    (cond (eqb k 5) (Known (Post N t))
-    (cond (eqb k 6) (Known (Latch N t))
-    (cond (eqb k 7) (Known (Complete N t))
-    (cond (eqb k 8) (Known (DropRequest N t))
-    (cond (eqb k 9) (Known (DropCompletion N t))
-    Unfit)))))
+    cond (eqb k 4) (Some (Commit N t))
+    (cond (eqb k 5) (Some (Post N t))
+    (cond (eqb k 6) (Some (Latch N t))
+    (cond (eqb k 7) (Some (Complete N t))
+    (cond (eqb k 8) (Some (DropRequest N t))
+    (cond (eqb k 9) (Some (DropCompletion N t))
+    None)))))
 
 abbrev pub transaction_in : List ℕ → Transaction
 transaction_in b = record { master = agent (byte b 2); number = number_in b }
@@ -53,8 +55,8 @@ transaction_in b = record { master = agent (byte b 2); number = number_in b }
 unfoldable pub decoded : List ℕ → Decoded
 decoded b =
     cond (ltb (byte b 0) 4)
-    (cond (begin_unused_zero b) (begin_event (byte b 0) (agent (byte b 2)) (agent (byte b 3))) Unfit)
-    (cond (other_unused_zero b) (named_event (byte b 0) (chan (byte b 1)) (transaction_in b)) Unfit)
+    (cond (begin_unused_zero b) (begin_event (byte b 0) (agent (byte b 2)) (agent (byte b 3))) None)
+    (cond (other_unused_zero b) (named_event (byte b 0) (chan (byte b 1)) (transaction_in b)) None)
 
 -- the records of bytes, eight bytes each
 unfoldable pub records : List ℕ → List Decoded

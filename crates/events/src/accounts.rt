@@ -15,9 +15,8 @@ fn begins_with(kind: u8, m: Agent, a: Agent) -> Account
             master: m,
             number: 0,
         },
-        target: a,
+        target: Some(a),
         kind,
-        begins: true,
         moves: false,
     }
 }
@@ -28,9 +27,8 @@ fn names(kind: u8, n: Chan, t: Transaction, moves: bool) -> Account
     Account {
         channel: n,
         name: t,
-        target: Agent(0),
+        target: None,
         kind,
-        begins: false,
         moves,
     }
 }

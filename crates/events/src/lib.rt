@@ -3,14 +3,16 @@
 #![tactic(auto)]
 
 pub mod accounts;
+pub mod answers;
 pub mod reads;
 pub mod records;
 
+use base::Refusal;
 use chassis::{Agent, Chan};
 use network::State;
 use queue::Transaction;
 
-#[derive(Clone, Copy)]
+#[derive(Clone, Copy, Debug, PartialEq, Eq)]
 pub enum Event {
     BeginPosted {
         master: Agent,
@@ -51,53 +53,39 @@ pub enum Event {
 }
 
 // What the nine kinds have in common.
-#[derive(Clone, Copy)]
+#[derive(Clone, Copy, Debug, PartialEq, Eq)]
 pub struct Account {
     // The channel that it names, or begins in.
     pub channel: Chan,
     // The master and the number that it names; a begin names no number: 0.
     pub name: Transaction,
-    // A begin's target; other kinds do not use it: agent 0.
-    pub target: Agent,
-    // The kind of entry that it names, or adds.
+    // A begin's target: kinds 1 to 3.
+    pub target: Option<Agent>,
+    // The kind of entry that it names, or adds: a number, as an entry's.
     pub kind: u8,
-    // Kinds 1 to 3.
-    pub begins: bool,
     // Kinds 5 to 7, which ask for the next place.
     pub moves: bool,
 }
 
 // Held in a step record with its block and place.
-#[derive(Clone, Copy)]
+#[derive(Clone, Copy, Debug, PartialEq, Eq)]
 pub struct Step {
     pub block: u16,
     pub place: u8,
     pub event: Event,
 }
 
-// What eight record bytes say: an event, or ground 1.
-#[derive(Clone, Copy)]
-pub enum Decoded {
-    Known(Event),
-    Unfit,
+// What a block's record says that holds no event: what its line needs.
+#[derive(Clone, Copy, Debug, PartialEq, Eq)]
+pub struct Unfit {
+    pub block: u16,
+    pub place: u8,
+    pub kind: u8,
 }
 
-// A record as a block holds it: an event in its step record, or, of a record that is none, what its line needs.
-#[derive(Clone, Copy)]
-pub enum Read {
-    Known(Step),
-    Unfit { block: u16, place: u8, kind: u8 },
-}
-
-// What a single step answers; the state stands beside it.
-#[derive(Clone, Copy)]
-pub enum Answer {
-    Accepted(u16),
-    Refused(u8),
-}
-
+// What a single step answers, its value or why it is refused, and the state beside it.
 #[derive(Clone, Copy)]
 pub struct Outcome {
-    pub answer: Answer,
+    pub answer: Result<u16, Refusal>,
     pub state: State,
 }

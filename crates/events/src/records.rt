@@ -2,7 +2,7 @@
 ghost use Rattle.std.specs.Prelude.{◌≡◌, ◌+◌, ◌*◌, ◌<◌, ◌≤◌, length, take, drop};
 ghost use Rattle.events.specs.Records.{begin_event, named_event, begin_unused_zero, other_unused_zero, rest_is_zero, decoded};
 
-use crate::{Decoded, Event};
+use crate::Event;
 use chassis::{Agent, Chan};
 use queue::Transaction;
 
@@ -10,60 +10,58 @@ use queue::Transaction;
 fn word(low: u8, high: u8) -> u16
     ensures { result ≡ low + 256 * high }
 {
-    let l = low as u16;
-    let h = high as u16;
-    l + 256 * h
+    u16::from(low) + 256 * u16::from(high)
 }
 
-fn begin_of(kind: u8, m: Agent, a: Agent) -> Decoded
+fn begin_of(kind: u8, m: Agent, a: Agent) -> Option<Event>
     ensures { result ≡ begin_event kind m a }
 {
     match kind {
-        1 => Decoded::Known(Event::BeginPosted {
+        1 => Some(Event::BeginPosted {
             master: m,
             target: a,
         }),
-        2 => Decoded::Known(Event::BeginRead {
+        2 => Some(Event::BeginRead {
             master: m,
             target: a,
         }),
-        3 => Decoded::Known(Event::BeginWrite {
+        3 => Some(Event::BeginWrite {
             master: m,
             target: a,
         }),
-        _ => Decoded::Unfit,
+        _ => None,
     }
 }
 
-fn named_of(kind: u8, n: Chan, t: Transaction) -> Decoded
+fn named_of(kind: u8, n: Chan, t: Transaction) -> Option<Event>
     ensures { result ≡ named_event kind n t }
 {
     match kind {
-        4 => Decoded::Known(Event::Commit {
+        4 => Some(Event::Commit {
             channel: n,
             transaction: t,
         }),
-        5 => Decoded::Known(Event::Post {
+        5 => Some(Event::Post {
             channel: n,
             transaction: t,
         }),
-        6 => Decoded::Known(Event::Latch {
+        6 => Some(Event::Latch {
             channel: n,
             transaction: t,
         }),
-        7 => Decoded::Known(Event::Complete {
+        7 => Some(Event::Complete {
             channel: n,
             transaction: t,
         }),
-        8 => Decoded::Known(Event::DropRequest {
+        8 => Some(Event::DropRequest {
             channel: n,
             transaction: t,
         }),
-        9 => Decoded::Known(Event::DropCompletion {
+        9 => Some(Event::DropCompletion {
             channel: n,
             transaction: t,
         }),
-        _ => Decoded::Unfit,
+        _ => None,
     }
 }
 
@@ -72,10 +70,7 @@ fn rest_is_zero(b: &[u8]) -> bool
     requires { length b.now ≡ 8 }
     ensures { result ≡ rest_is_zero b.now }
 {
-    if b[6] != 0 {
-        return false;
-    }
-    b[7] == 0
+    b[6] == 0 && b[7] == 0
 }
 
 // A begin does not use channel and number.
@@ -83,16 +78,7 @@ fn begin_unused_zero(b: &[u8]) -> bool
     requires { length b.now ≡ 8 }
     ensures { result ≡ begin_unused_zero b.now }
 {
-    if b[1] != 0 {
-        return false;
-    }
-    if b[4] != 0 {
-        return false;
-    }
-    if b[5] != 0 {
-        return false;
-    }
-    rest_is_zero(b)
+    b[1] == 0 && b[4] == 0 && b[5] == 0 && rest_is_zero(b)
 }
 
 // Other kinds do not use target.
@@ -100,26 +86,23 @@ fn other_unused_zero(b: &[u8]) -> bool
     requires { length b.now ≡ 8 }
     ensures { result ≡ other_unused_zero b.now }
 {
-    if b[3] != 0 {
-        return false;
-    }
-    rest_is_zero(b)
+    b[3] == 0 && rest_is_zero(b)
 }
 
 // The event of eight record bytes, or ground 1.
-pub fn decode(b: &[u8]) -> Decoded
+pub fn decode(b: &[u8]) -> Option<Event>
     requires { length b.now ≡ 8 }
     ensures { result ≡ decoded b.now }
 {
     let kind = b[0];
     if kind < 4 {
         if !begin_unused_zero(b) {
-            return Decoded::Unfit;
+            return None;
         }
         return begin_of(kind, Agent(b[2]), Agent(b[3]));
     }
     if !other_unused_zero(b) {
-        return Decoded::Unfit;
+        return None;
     }
     let number = word(b[4], b[5]);
     named_of(
@@ -133,7 +116,7 @@ pub fn decode(b: &[u8]) -> Decoded
 }
 
 // Record i of the record bytes: "eight bytes each".
-pub fn record_at(r: &[u8], i: usize) -> Decoded
+pub fn record_at(r: &[u8], i: usize) -> Option<Event>
     requires { 8 * i + 8 ≤ length r.now }
     ensures { result ≡ decoded (take 8 (drop (8 * i) r.now)) }
 {

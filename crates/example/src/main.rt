@@ -8,16 +8,16 @@
 
 #![tactic(auto)]
 
-use chassis::{Agent, Bridge, Bus, Chan, MOST_AGENTS, NextPlace, RouteAnswer, Table, TableAnswer};
-use events::Answer;
+use base::Refusal;
+use chassis::{Agent, Bridge, Bus, Chan, MOST_AGENTS, NextPlace, Table};
 use find_routes::routes::route;
+use lent_plays::steps::step;
 use lent_tables::Numbers;
 use lent_tables::lends::check_arrays;
+use lent_ticks::at_once::tick;
 use network::{State, open, zero};
-use play_events::steps::step;
-use play_ticks::at_once::tick;
 use std::io;
-use ticks::TickAnswer;
+use ticks::TickRefusal;
 
 fn bridge(first: Bus, second: Bus) -> Bridge {
     Bridge { first, second }
@@ -54,87 +54,45 @@ fn named(kind: u8, channel: Chan, master: Agent, number: u16) -> [u8; 8] {
     [kind, channel.0, master.0, 0, low, high, 0, 0]
 }
 
-fn say(rt: &impl Print, text: &str) -> io::Result<()> {
-    rt.print(text)
-}
-
-fn say_number(rt: &impl Print, n: u64) -> io::Result<()> {
-    rt.print(n)
-}
-
-fn say_value(rt: &impl Print, v: u16) -> io::Result<()> {
-    say_number(rt, v as u64)
-}
-
 // A table passes, or is refused with 23 to 27.
-fn show_table(rt: &impl Print, what: &str, a: TableAnswer) -> io::Result<()> {
-    say(rt, what)?;
-    match a {
-        TableAnswer::Passed => say_number(rt, 0)?,
-        TableAnswer::Refused(number) => say_number(rt, number as u64)?,
-    }
-    say(rt, "\n")
+fn show_table(rt: &impl Print, what: &str, a: Result<(), Refusal>) -> io::Result<()> {
+    let number = a.map_or_else(u8::from, |_| 0);
+    println!(rt; "{what}: {number}")
 }
 
 // A way goes on through a bridge channel, or has reached the agent's bus.
-fn show_route(rt: &impl Print, what: &str, a: RouteAnswer) -> io::Result<()> {
-    say(rt, what)?;
+fn show_route(rt: &impl Print, what: &str, a: Result<NextPlace, Refusal>) -> io::Result<()> {
     match a {
-        RouteAnswer::Refused(number) => {
-            say(rt, "refused, ")?;
-            say_number(rt, number as u64)?;
-        }
-        RouteAnswer::Next(next) => match next {
-            NextPlace::Target => say(rt, "the agent itself")?,
-            NextPlace::Through(channel) => {
-                say(rt, "channel ")?;
-                say_number(rt, channel.0 as u64)?;
-            }
-        },
+        Ok(NextPlace::Target) => println!(rt; "{what}: the agent itself"),
+        Ok(NextPlace::Through(channel)) => println!(rt; "{what}: channel {}", channel.0),
+        Err(ground) => println!(rt; "{what}: refused, {}", u8::from(ground)),
     }
-    say(rt, "\n")
 }
 
 // A step: 0 and a value, or a number and 0. The state behind it is handed on; after a refusal it is the one handed in.
 fn show_step(rt: &impl Print, what: &str, s: State, record: &[u8]) -> io::Result<State> {
     let r = step(s, record);
-    let a = r.answer;
-    say(rt, what)?;
-    say(rt, ": refusal ")?;
-    match a {
-        Answer::Accepted(value) => {
-            say(rt, "0, value ")?;
-            say_number(rt, value as u64)?;
-        }
-        Answer::Refused(number) => {
-            say_number(rt, number as u64)?;
-            say(rt, ", value 0")?;
-        }
+    match r.answer {
+        Ok(value) => println!(rt; "{what}: refusal 0, value {value}")?,
+        Err(ground) => println!(rt; "{what}: refusal {}, value 0", u8::from(ground))?,
     }
-    say(rt, "\n")?;
     Ok(r.state)
 }
 
 // A tick: accepted as a whole, or one record is refused, or two conflict.
-fn show_tick(rt: &impl Print, what: &str, a: TickAnswer) -> io::Result<()> {
-    say(rt, what)?;
-    say(rt, ": refusal ")?;
+fn show_tick(rt: &impl Print, what: &str, a: Result<(), TickRefusal>) -> io::Result<()> {
     match a {
-        TickAnswer::Accepted => say(rt, "0, records 0 and 0")?,
-        TickAnswer::Refused { number, record } => {
-            say_number(rt, number as u64)?;
-            say(rt, ", records ")?;
-            say_number(rt, record as u64)?;
-            say(rt, " and 0")?;
+        Ok(()) => println!(rt; "{what}: refusal 0, records 0 and 0"),
+        Err(TickRefusal::Refused { ground, record }) => {
+            println!(rt;
+                "{what}: refusal {}, records {record} and 0",
+                u8::from(ground)
+            )
         }
-        TickAnswer::Conflict { record, other } => {
-            say(rt, "15, records ")?;
-            say_number(rt, record as u64)?;
-            say(rt, " and ")?;
-            say_number(rt, other as u64)?;
+        Err(TickRefusal::Conflict { record, other }) => {
+            println!(rt; "{what}: refusal 15, records {record} and {other}")
         }
     }
-    say(rt, "\n")
 }
 
 // `check`: whoever holds plain lists can have them checked before a table is made of them. `check_arrays` lends it the
@@ -153,12 +111,12 @@ fn check_lists(rt: &impl Print) -> io::Result<()> {
     homes[3] = Bus(2);
     show_table(
         rt,
-        "check of the lists: ",
+        "check of the lists",
         check_arrays(numbers, bridges, homes, 2, 4),
     )?;
     show_table(
         rt,
-        "check without bridge 1: ",
+        "check without bridge 1",
         check_arrays(numbers, bridges, homes, 1, 4),
     )
 }
@@ -167,22 +125,22 @@ fn check_lists(rt: &impl Print) -> io::Result<()> {
 fn ask_routes(rt: &impl Print, t: Table) -> io::Result<()> {
     show_route(
         rt,
-        "route from channel 0 to agent 2: ",
+        "route from channel 0 to agent 2",
         route(t, Chan(0), Agent(2)),
     )?;
     show_route(
         rt,
-        "route from channel 4 to agent 2: ",
+        "route from channel 4 to agent 2",
         route(t, Chan(4), Agent(2)),
     )?;
     show_route(
         rt,
-        "route from channel 6 to agent 2: ",
+        "route from channel 6 to agent 2",
         route(t, Chan(6), Agent(2)),
     )?;
     show_route(
         rt,
-        "route from channel 8 to agent 2: ",
+        "route from channel 8 to agent 2",
         route(t, Chan(8), Agent(2)),
     )
 }
@@ -201,13 +159,8 @@ fn take_a_tick(rt: &impl Print, s: State) -> io::Result<State> {
     let records: [u8; 16] = [6, 0, 0, 0, 2, 0, 0, 0, 1, 0, 1, 2, 0, 0, 0, 0];
     let mut values: [u16; 2] = [0; 2];
     let r = tick(s, &records, &mut values);
-    let a = r.answer;
-    show_tick(rt, "tick of a latch and a begin", a)?;
-    say(rt, "values ")?;
-    say_value(rt, values[0])?;
-    say(rt, " ")?;
-    say_value(rt, values[1])?;
-    say(rt, "\n")?;
+    show_tick(rt, "tick of a latch and a begin", r.answer)?;
+    println!(rt; "values {} {}", values[0], values[1])?;
     Ok(r.state)
 }
 
@@ -217,31 +170,25 @@ fn refuse_ticks(rt: &impl Print, s: State) -> io::Result<()> {
     let mut values: [u16; 2] = [0; 2];
     let begins: [u8; 16] = [1, 0, 1, 2, 0, 0, 0, 0, 1, 0, 1, 2, 0, 0, 0, 0];
     let two = tick(s, &begins, &mut values);
-    let a = two.answer;
-    show_tick(rt, "tick of two begins", a)?;
+    show_tick(rt, "tick of two begins", two.answer)?;
     let wrong: [u8; 16] = [1, 0, 1, 2, 0, 0, 0, 0, 5, 0, 0, 0, 1, 0, 0, 0];
     let refused = tick(s, &wrong, &mut values);
-    let a = refused.answer;
-    show_tick(rt, "tick with a wrong post", a)
+    show_tick(rt, "tick with a wrong post", refused.answer)
 }
 
 // A state is plain data and can be looked at: the write and the copy of the read wait in channel 4.
 fn look(rt: &impl Print, s: State) -> io::Result<()> {
-    let channel = s.channels[4];
-    say(rt, "entries in channel 4: ")?;
-    say_number(rt, channel.count as u64)?;
-    say(rt, "\n")
+    println!(rt; "entries in channel 4: {}", s.channels[4].count)
 }
 
 // What only callers meet: a state that is not sound, record bytes that are not whole, too short a list.
 fn call_wrongly(rt: &impl Print, s: State) -> io::Result<()> {
     let records: [u8; 16] = [1, 0, 1, 2, 0, 0, 0, 0, 1, 0, 2, 1, 0, 0, 0, 0];
-    let same = show_step(rt, "step in the all-zero state", zero(), &records[..8])?;
-    let same = show_step(rt, "step of seven bytes", s, &records[..7])?;
+    show_step(rt, "step in the all-zero state", zero(), &records[..8])?;
+    show_step(rt, "step of seven bytes", s, &records[..7])?;
     let mut values: [u16; 1] = [0; 1];
     let r = tick(s, &records, &mut values);
-    let a = r.answer;
-    show_tick(rt, "tick with one place for two", a)
+    show_tick(rt, "tick with one place for two", r.answer)
 }
 
 // `open`: the empty network of a table stands beside the answer.
@@ -249,8 +196,7 @@ fn main(rt: HostRuntime) -> io::Result<()> {
     check_lists(&rt)?;
     let t = chassis();
     let opened = open(t, false);
-    let a = opened.answer;
-    show_table(&rt, "open: ", a)?;
+    show_table(&rt, "open", opened.answer)?;
     ask_routes(&rt, t)?;
     let s = take_steps(&rt, opened.state)?;
     let s = take_a_tick(&rt, s)?;

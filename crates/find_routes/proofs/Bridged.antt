@@ -56,6 +56,14 @@ module _ (T : Table) (ok : table_passes T ≡ true) where
   near_low k h true = omega (arith, (ends_of T ok k h).0, few T ok)
   near_low k h false = omega (arith, (ends_of T ok k h).1, few T ok)
 
+  pub first_low : (k : ℕ) → k < T.bridges → (first_bus T k).0 < 16
+  first_low k h = near_low k h true
+
+  pub second_low : (k : ℕ) → k < T.bridges → (second_bus T k).0 < 16
+  second_low k h = near_low k h false
+
+  pub ruleset ends_low = (first_low, second_low)
+
   far_low : (k : ℕ) → k < T.bridges → (d : Bool) → (to T (hop k d)).0 < 16
   far_low k h true = near_low k h false
   far_low k h false = near_low k h true
@@ -158,7 +166,7 @@ module _ (T : Table) (ok : table_passes T ≡ true) where
       split (same_bus A B)
       (λ t.
       let p = strangers T.bridges (omega arith) a b n (same_yes A B t) in
-      rw t (ap (λ (w : List Hop). place_number (first_place T w)) (here T a b (ap (λ (x : Bus). x.0) p))))
+      rw t (ap (λ (w : List Hop). place_number (first_place T w)) (here T a b p)))
       (λ f. rw f)
 
   over_all : (i : ℕ) → hop_over T T.bridges (i / 16) (i % 16) ≡ hop_at T i
@@ -178,3 +186,5 @@ module _ (T : Table) (ok : table_passes T ≡ true) where
   table_ends l e =
       made (hop_at T) 256 0 l (tabled_long (hop_over T T.bridges) e)
       (λ i b. ap (λ (x : List ℕ). get_or x i 0) e ∙ tabled_at (hop_over T T.bridges) i b ∙ over_all i)
+
+pub ruleset turns = (labels_begin, table_begins, labels_next, table_next, table_ends)

@@ -22,9 +22,6 @@ module _ (a : ℕ) (l₀ : List ℕ) where
   abbrev pub Row : (ℕ → ℕ → ℕ) → List ℕ → ℕ → Type 0
   Row g l b = Filled 256 (λ j. in_row a g (at l₀) (j / 16) (j % 16)) l₀ l (16 * a + b)
 
-  pub row_begins : (g : ℕ → ℕ → ℕ) → length l₀ ≡ 256 → Row g l₀ 0
-  row_begins g s = record { size = s; done = λ j b. other_row g j (λ p. omega arith); rest = λ _ _ _. refl }
-
   pub row_next : (g : ℕ → ℕ → ℕ) (l : List ℕ) (b v : ℕ) → a < 16 → b < 16 → Row g l b → v ≡ g a b → Row g (set l (16 * a + b) v) (b + 1)
   row_next g l b v h k w e =
       let n : 16 * a + b + 1 ≡ 16 * a + (b + 1) = omega arith in
@@ -76,9 +73,6 @@ module _ (m : List ℕ) (near far : Bus) (c : Chan) where
   -- the rows before a are crossed
   abbrev pub Rows : List ℕ → List ℕ → ℕ → Type 0
   Rows l₀ l a = Filled 256 (λ j. crossed m near far c (at l₀) (j / 16) (j % 16)) l₀ l (16 * a)
-
-  pub rows_begin : (l₀ : List ℕ) → length l₀ ≡ 256 → Rows l₀ l₀ 0
-  rows_begin l₀ s = record { size = s; done = λ j b. absurd (omega arith); rest = λ _ _ _. refl }
 
   pub rows_end : (l₀ l : List ℕ) (a : ℕ) → 16 ≤ a → Rows l₀ l a → l ≡ tabled (crossed m near far c (at l₀))
   rows_end l₀ l a h w = is_tabled (crossed m near far c (at l₀)) l w.size (λ j b. w.done j (omega arith))

@@ -36,6 +36,9 @@ module _ (f : ℕ → ℕ) where
   unfolding labelled
   is_labelled l = made f 16 0 l
 
+  pub filled_labels : {l₀ l : List ℕ} {i : ℕ} → 16 ≤ i → Filled 16 f l₀ l i → l ≡ labelled f
+  filled_labels {l = l} b w = is_labelled l w.size (λ j h. w.done j (omega arith))
+
   pub labelled_size : length (labelled f) ≡ 16
   unfolding labelled
   labelled_size = long 0 16

@@ -5,17 +5,18 @@ use mathlib.Core.Path.{◌≡◌, refl, ap, subst⁻¹, ◌∙◌}
 use mathlib.Core.Bool.{Bool, true, false}
 use mathlib.Core.List.{List, [], ◌∷◌, map}
 use native.Mathlib.Omega.{arith}
-use borrow.Author.Tests.{eq-eqb, ne_eqb}
 use lib.ListN.{length}
 use Rattle.base.specs.Lists.{any}
 use Rattle.chassis.specs.declared.Bus.{Bus}
 use Rattle.chassis.specs.declared.Chan.{Chan}
 use Rattle.chassis.specs.declared.Table.{Table}
 use Rattle.chassis.specs.declared.NextPlace.TheVariants.{Through}
+use Rattle.chassis.specs.Numbers.{same_bus, same_chan}
 use Rattle.chassis.specs.Channels.{has_chan, out_bus}
 use Rattle.chassis.specs.Ways.{Hop, hop, to}
 use Rattle.chassis.specs.Routes.{way, channel_of, first_place, among}
 use Rattle.chassis.specs.Tables.{table_passes}
+use Rattle.chassis.proofs.Buses.{same_yes}
 use Rattle.chassis.proofs.Steps.{way_step}
 use Rattle.chassis.proofs.Numbering.{out_bus_of, chan_there}
 use Rattle.find_routes.proofs.Places.{here}
@@ -26,9 +27,9 @@ module _ (T : Table) where
   some c (hop g d ∷ hops) e = (g, d, hops, refl, cc)
 
   -- at the goal the way is at its end
-  pub arrived : (a b : Bus) → a.0 ≡ b.0 → (N : Chan) → false ≡ among N (map (channel_of T) (way T a b))
+  pub arrived : (a b : Bus) → same_bus a b ≡ true → (N : Chan) → false ≡ among N (map (channel_of T) (way T a b))
   unfolding any
-  arrived a b e N = rw (here T a b e)
+  arrived a b e N = rw (here T a b (same_yes a b e))
 
 module _ (T : Table) (ok : table_passes T ≡ true) (a b : Bus) (i : a.0 < T.buses) (j : b.0 < T.buses) (c : Chan) (e : Through c ≡ first_place T (way T a b)) where
   -- the way taken apart
@@ -65,10 +66,10 @@ module _ (T : Table) (ok : table_passes T ≡ true) (a b : Bus) (i : a.0 < T.bus
   pub one_nearer : length (way T (out_bus T c) b) < length (way T a b)
   one_nearer = rw taken.nearer taken.longer
 
-  pub crossed_here : (N : Chan) → N.0 ≡ c.0 → true ≡ among N (map (channel_of T) (way T a b))
+  pub crossed_here : (N : Chan) → same_chan N c ≡ true → true ≡ among N (map (channel_of T) (way T a b))
   unfolding any
-  crossed_here N h = rw (taken.places, eq-eqb N.0 c.0 h)
+  crossed_here N h = rw (taken.places, h)
 
-  pub crossed_on : (N : Chan) → (N.0 ≡ c.0 → ⊥) → among N (map (channel_of T) (way T (out_bus T c) b)) ≡ among N (map (channel_of T) (way T a b))
+  pub crossed_on : (N : Chan) → same_chan N c ≡ false → among N (map (channel_of T) (way T (out_bus T c) b)) ≡ among N (map (channel_of T) (way T a b))
   unfolding any
-  crossed_on N h = rw (taken.nearer, taken.places, ne_eqb N.0 c.0 h)
+  crossed_on N h = rw (taken.nearer, taken.places, h)

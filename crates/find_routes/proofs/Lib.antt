@@ -7,3 +7,4 @@ pub mod Filled
 pub mod Crossings
 pub mod OneMore
 pub mod Bridged
+pub mod Tried

@@ -9,12 +9,14 @@ use Rattle.chassis.specs.declared.Bus.{Bus}
 use Rattle.chassis.specs.declared.Table.{Table}
 use Rattle.chassis.specs.declared.NextPlace.{NextPlace}
 use Rattle.chassis.specs.declared.NextPlace.TheVariants.{Target, Through}
+use Rattle.chassis.specs.Capacities.{most_agents}
 use Rattle.chassis.specs.Numbers.{same_bus}
 use Rattle.chassis.specs.Channels.{first_bus, second_bus}
 use Rattle.chassis.specs.Ways.{Hop, hop, from, to, Way}
 use Rattle.chassis.specs.Routes.{component, way_over, channel_of, first_place}
 use Rattle.check_tables.specs.Ladders.{InRange, ladder_of, share_label, Reachable}
-use Rattle.chassis.proofs.Buses.{bus_path, same_yes, same_no, yes_same}
+use Rattle.chassis.proofs.Counts.{counts}
+use Rattle.chassis.proofs.Buses.{same_yes, same_no, yes_same}
 use Rattle.chassis.proofs.Components.{Joined, within, across, joined}
 use Rattle.chassis.proofs.Trees.{way_right}
 use Rattle.check_tables.proofs.Levels.{first_low, second_low, shares}
@@ -67,6 +69,13 @@ module _ (T : Table) where
 pub record Toward (T : Table) (a : Bus) (asked : NextPlace) (k : ℕ) (b : Bus) : Type 0 where
   pub reach : Reachable T k a b
   pub place : first_place T (way_over T k a b) ≡ asked
+
+-- how much there may be, as the calls ask for it
+pub few_bridges : (T : Table) → InRange T → T.bridges ≤ 15
+few_bridges T ok = omega (arith, counts T ok.counts)
+
+pub few_agents : (T : Table) → InRange T → T.agents ≤ most_agents
+few_agents T ok = omega (arith, counts T ok.counts)
 
 module _ (T : Table) (ok : InRange T) (l : List ℕ) (e : l ≡ ladder_of T) {a : Bus} {asked : NextPlace} where
   pub none_left : {k : ℕ} {b : Bus} → k ≤ 0 → Toward T a asked k b → Target ≡ asked
@@ -124,12 +133,17 @@ module _ (T : Table) (ok : InRange T) (l : List ℕ) (e : l ≡ ladder_of T) {a 
       over_last : first_place T (way_over T (k - 1) a (from T (hop (k - 1) d)) ++ (hop (k - 1) d ∷ way_over T (k - 1) (to T (hop (k - 1) d)) b)) ≡ asked
       over_last = ap (first_place T) (sym (way_over_last ∙ over T (k - 1) a b apart d side)) ∙ w.place
 
-      pub go_through : a.0 ≡ (from T (hop (k - 1) d)).0 → Through (channel_of T (hop (k - 1) d)) ≡ asked
-      go_through p =
-          place_here T (k - 1) a (from T (hop (k - 1) d)) (hop (k - 1) d) (way_over T (k - 1) (to T (hop (k - 1) d)) b) (bus_path p) ∙ over_last
+      -- by the near end x, as the code has it
+      module _ (x : Bus) (g : x ≡ cond d (first_bus T (k - 1)) (second_bus T (k - 1))) where
+        is_near : x ≡ from T (hop (k - 1) d)
+        is_near = g ∙ near_is T (k - 1) d
 
-      pub go_near : (a.0 ≡ (from T (hop (k - 1) d)).0 → ⊥) → Toward T a asked (k - 1) (from T (hop (k - 1) d))
-      go_near p = record {
-        reach = near_reach;
-        place = place_before T (k - 1) a (from T (hop (k - 1) d)) (hop (k - 1) d) (way_over T (k - 1) (to T (hop (k - 1) d)) b) near_reach.joined (λ q. p (ap (λ (c : Bus). c.0) q)) ∙ over_last;
-      }
+        pub go_through : same_bus a x ≡ true → Through (channel_of T (hop (k - 1) d)) ≡ asked
+        go_through p =
+            place_here T (k - 1) a (from T (hop (k - 1) d)) (hop (k - 1) d) (way_over T (k - 1) (to T (hop (k - 1) d)) b) (same_yes a x p ∙ is_near) ∙ over_last
+
+        pub go_near : same_bus a x ≡ false → Toward T a asked (k - 1) x
+        go_near p = rw is_near record {
+          reach = near_reach;
+          place = place_before T (k - 1) a (from T (hop (k - 1) d)) (hop (k - 1) d) (way_over T (k - 1) (to T (hop (k - 1) d)) b) near_reach.joined (λ q. same_no a x p (q ∙ sym is_near)) ∙ over_last;
+        }

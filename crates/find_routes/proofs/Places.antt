@@ -1,6 +1,6 @@
 -- On a table that passes, the buses of its agents and channels are there, and any two are reached from each other: what
 -- the private functions ask for follows from `table_passes`.
-use Prim.Native.Nat.{◌<◌}
+use Prim.Native.Nat.{◌<◌, ◌≤◌}
 use mathlib.Core.Path.{◌≡◌, subst}
 use mathlib.Core.Bool.{true}
 use mathlib.Core.List.{[]}
@@ -19,7 +19,6 @@ use Rattle.chassis.specs.Channels.{has_agent, has_chan, has_bus, is_master, goes
 use Rattle.chassis.specs.Routes.{way}
 use Rattle.chassis.specs.Tables.{has_both_buses, bridges_of, homes_of, buses_are_there, table_passes}
 use Rattle.check_tables.specs.Ladders.{InRange, Reachable}
-use Rattle.chassis.proofs.Buses.{bus_path}
 use Rattle.chassis.proofs.Trees.{joined_in}
 use Rattle.chassis.proofs.Passing.{passed}
 use Rattle.chassis.proofs.Steps.{ends_of}
@@ -27,12 +26,21 @@ use Rattle.chassis.proofs.Numbering.{few, bridge_there}
 use Rattle.find_routes.proofs.Nearest.{way_none}
 
 -- there is no way to go to the bus where one is
-pub here : (T : Table) (a b : Bus) → a.0 ≡ b.0 → way T a b ≡ []
-here T a b p = subst (λ (x : Bus). way T a x ≡ []) (bus_path p) (way_none T T.bridges a)
+pub here : (T : Table) (a b : Bus) → a ≡ b → way T a b ≡ []
+here T a b p = subst (λ (x : Bus). way T a x ≡ []) p (way_none T T.bridges a)
 
 module _ (T : Table) (ok : table_passes T ≡ true) where
   pub in_range : InRange T
   in_range = record { counts = (passed T ok).counts; buses = (passed T ok).buses }
+
+  pub few_buses_there : T.buses ≤ 16
+  few_buses_there = omega (arith, few T ok)
+
+  pub few_bridges_there : T.bridges ≤ 15
+  few_bridges_there = omega (arith, few T ok)
+
+  pub few_agents_there : T.agents ≤ most_agents
+  few_agents_there = omega (arith, few T ok)
 
   pub agent_low : (a : Agent) → has_agent T a ≡ true → a.0 < most_agents
   agent_low a h = omega (arith, ltb-true a.0 T.agents h, few T ok)

@@ -1,6 +1,6 @@
 // The first channel of a way: found by a loop over the bridges, or looked up in a table of them.
 
-ghost use Rattle.std.specs.Prelude.{◌≡◌, true, cond, ◌+◌, ◌*◌, ◌<◌, ◌≤◌, length, get_or, eqb};
+ghost use Rattle.std.specs.Prelude.{◌≡◌, true, cond, ◌+◌, ◌*◌, ◌<◌, ◌≤◌, length, get_or};
 ghost use Rattle.chassis.specs.Capacities.{most_agents};
 ghost use Rattle.chassis.specs.Numbers.{chan};
 ghost use Rattle.chassis.specs.Ways.{hop};
@@ -17,10 +17,7 @@ use check_tables::labels::share_label;
 fn near_end(p: Bridge, forth: bool) -> Bus
     ensures { result ≡ cond forth p.first p.second }
 {
-    if forth {
-        return p.first;
-    }
-    p.second
+    if forth { p.first } else { p.second }
 }
 
 fn bridge_channel(t: Table, g: usize, forth: bool) -> Chan
@@ -28,10 +25,7 @@ fn bridge_channel(t: Table, g: usize, forth: bool) -> Chan
     ensures { result ≡ channel_of t (hop g forth) }
 {
     let c = t.agents + 2 * (g as u8);
-    if forth {
-        return Chan(c);
-    }
-    Chan(c + 1)
+    Chan(if forth { c } else { c + 1 })
 }
 
 // Where the last bridge parts the two buses, the way to its near end comes first: that end is the goal then, with one
@@ -40,31 +34,19 @@ pub fn next_hop(t: Table, l: &[u8; 256], k: usize, a: Bus, b: Bus) -> NextPlace
     requires { InRange t × (l.now ≡ ladder_of t) × Reachable t k a b }
     ensures { result ≡ first_place t (way_over t k a b) }
 {
-    let mut left = k;
     let mut goal = b;
-    while left > 0 {
-        left -= 1;
+    for left in (0..k).rev() {
         if !share_label(l, left, a, goal) {
             let p = t.pairs[left];
             let forth = share_label(l, left, a, p.first);
             let near = near_end(p, forth);
-            if a.0 == near.0 {
+            if a == near {
                 return NextPlace::Through(bridge_channel(t, left, forth));
             }
             goal = near;
         }
     }
     NextPlace::Target
-}
-
-// v where x is y, else w.
-fn chosen(x: u8, y: u8, v: u8, w: u8) -> u8
-    ensures { result ≡ cond (eqb x y) v w }
-{
-    if x == y {
-        return v;
-    }
-    w
 }
 
 // Row a of the table: where bus a has the near end's label, one channel leads to all buses that have the far end's.
@@ -76,16 +58,11 @@ fn cross_from(h: &mut [u8; 256], labels: &[u8; 16], a: usize, near: Bus, far: Bu
     if labels[a] != labels[x] {
         return;
     }
-    let y = far.0 as usize;
-    let z = labels[y];
-    let to = 16 * a + x;
-    let v = chosen(a as u8, near.0, c.0, h[to]);
-    let mut b: usize = 0;
-    while b < 16 {
+    let z = labels[far.0 as usize];
+    let v = if a == x { c.0 } else { h[16 * a + x] };
+    for b in 0..16 {
         let i = 16 * a + b;
-        let w = chosen(labels[b], z, v, h[i]);
-        h[i] = w;
-        b += 1;
+        h[i] = if labels[b] == z { v } else { h[i] };
     }
 }
 
@@ -95,10 +72,8 @@ fn cross(h: &mut [u8; 256], labels: [u8; 16], near: Bus, far: Bus, c: Chan)
     requires { (length h.old ≡ 256) × (near.0 < 16) × (far.0 < 16) }
     ensures { h.new ≡ tabled (crossed labels near far c (at h.old)) }
 {
-    let mut a: usize = 0;
-    while a < 16 {
+    for a in 0..16 {
         cross_from(h, &labels, a, near, far, c);
-        a += 1;
     }
 }
 
@@ -107,11 +82,10 @@ fn merged(labels: [u8; 16], p: u8, q: u8) -> [u8; 16]
     ensures { result ≡ labelled (relabelled labels p q) }
 {
     let mut r = labels;
-    let mut i: usize = 0;
-    while i < 16 {
-        let x = chosen(r[i], q, p, r[i]);
-        r[i] = x;
-        i += 1;
+    for x in &mut r {
+        if *x == q {
+            *x = p;
+        }
     }
     r
 }
@@ -124,18 +98,17 @@ pub fn hops(t: Table) -> [u8; 256]
 {
     let mut labels: [u8; 16] = [0, 1, 2, 3, 4, 5, 6, 7, 8, 9, 10, 11, 12, 13, 14, 15];
     let mut h = [255; 256];
-    let n = t.bridges as usize;
-    let mut k: usize = 0;
-    while k < n {
+    for k in 0..t.bridges as usize {
         let p = t.pairs[k];
         let forth = bridge_channel(t, k, true);
         let back = bridge_channel(t, k, false);
         cross(&mut h, labels, p.first, p.second, forth);
         cross(&mut h, labels, p.second, p.first, back);
-        let x = p.first.0 as usize;
-        let y = p.second.0 as usize;
-        labels = merged(labels, labels[x], labels[y]);
-        k += 1;
+        labels = merged(
+            labels,
+            labels[p.first.0 as usize],
+            labels[p.second.0 as usize],
+        );
     }
     h
 }
@@ -145,6 +118,5 @@ pub fn towards(hops: &[u8; 256], a: Bus, b: Bus) -> Chan
     requires { (a.0 < 16) × (b.0 < 16) }
     ensures { result ≡ chan (get_or hops.now (16 * a.0 + b.0) 0) }
 {
-    let i = 16 * (a.0 as usize) + b.0 as usize;
-    Chan(hops[i])
+    Chan(hops[16 * (a.0 as usize) + b.0 as usize])
 }

@@ -1,7 +1,8 @@
 -- What a judge says: a refusal, or the effects of an accepted event as changes of channels.
-use Rattle.std.specs.Prelude.{ℕ, ◌+◌, Bool, true, false, cond, get_or}
-use Rattle.std.proofs.Math.Option.{Option, none, some}
-use Rattle.base.specs.Grounds.{refusal}
+use Rattle.std.specs.Prelude.{ℕ, ◌+◌, Bool, true, false, cond, get_or, None, Some, Result, Err}
+use Rattle.base.specs.Grounds.{refusal, answer}
+use Rattle.base.specs.declared.Refusal.{Refusal}
+use Rattle.base.specs.declared.Refusal.TheVariants.{UnfitRecord}
 use Rattle.chassis.specs.declared.Agent.{Agent}
 use Rattle.chassis.specs.declared.Chan.{Chan}
 use Rattle.chassis.specs.declared.Table.{Table}
@@ -17,14 +18,13 @@ use Rattle.network.specs.declared.State.{State}
 use Rattle.network.specs.declared.Act.{Act}
 use Rattle.network.specs.Nets.{Net}
 use Rattle.network.specs.code.Acts.{acted_on, counted}
+use Rattle.events.specs.Records.{Decoded}
 use Rattle.events.specs.declared.Event.{Event}
 use Rattle.events.specs.declared.Event.TheVariants.{BeginPosted, BeginRead, BeginWrite, Commit, Post, Latch, Complete, DropRequest, DropCompletion}
-use Rattle.events.specs.declared.Decoded.{Decoded}
-use Rattle.events.specs.declared.Decoded.TheVariants.{Known, Unfit}
 use Rattle.judge_events.specs.declared.Plan.{Plan}
 use Rattle.events.specs.Tests.{ahead, entry_at}
 use Rattle.events.specs.Grounds.{grounds}
-use Rattle.events.specs.Accounts.{account}
+use Rattle.events.specs.Accounts.{is_begin}
 use Rattle.events.specs.Effects.{new_entry, next_number, value}
 
 abbrev pub at_channel : Chan → Change → Act
@@ -32,9 +32,6 @@ at_channel N ch = record { at = N; change = ch }
 
 abbrev pub no_act : Act
 no_act = at_channel (chan 0) Nothing
-
-abbrev pub refused_plan : ℕ → Plan
-refused_plan n = record { refusal = n; value = 0; raises = false; first = no_act; second = no_act; third = no_act }
 
 -- the changes of an event, in their order
 pub record Acts : Type 0 where
@@ -49,11 +46,10 @@ abbrev pub begin_acts : Net → ℕ → Bool → Agent → Agent → Acts
 begin_acts s k write m a = three (at_channel (master_channel m) (Add (new_entry s k write m a))) no_act no_act
 
 abbrev pub does : Act → Act → Act → Plan
-does a b c = record { refusal = 0; value = 0; raises = false; first = a; second = b; third = c }
+does a b c = record { value = 0; raises = false; first = a; second = b; third = c }
 
 abbrev pub begin_plan : Net → ℕ → Bool → Agent → Agent → Plan
 begin_plan s k write m a = record {
-  refusal = 0;
   value = next_number s m;
   raises = true;
   first = at_channel (master_channel m) (Add (new_entry s k write m a));
@@ -96,24 +92,19 @@ acts_of s (DropCompletion N t) = three (at_channel N (TakeOut (entry_at s C N t)
 -- these, with the event's value; a begin raises its master's count
 unfoldable pub accepted_plan : Net → Event → Plan
 accepted_plan s e = record {
-  refusal = 0;
   value = value s e;
-  raises = (account e).begins;
+  raises = is_begin e;
   first = (acts_of s e).first;
   second = (acts_of s e).second;
   third = (acts_of s e).third;
 }
 
-abbrev pub plan_by : Option ℕ → Plan → Plan
-plan_by none p = p
-plan_by (some n) p = refused_plan n
+unfoldable pub plan : Net → Event → Result Plan Refusal
+plan s e = answer (refusal (grounds s e)) (accepted_plan s e)
 
-unfoldable pub plan : Net → Event → Plan
-plan s e = plan_by (refusal (grounds s e)) (accepted_plan s e)
-
-unfoldable pub record_plan : Net → Decoded → Plan
-record_plan s Unfit = refused_plan 1
-record_plan s (Known e) = plan s e
+unfoldable pub record_plan : Net → Decoded → Result Plan Refusal
+record_plan s None = Err UnfitRecord
+record_plan s (Some e) = plan s e
 
 -- what a plan makes of a state; m is the event's master
 unfoldable pub carried_out : State → Agent → Plan → State

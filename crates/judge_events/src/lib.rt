@@ -6,10 +6,10 @@ pub mod judges;
 
 use network::Act;
 
-// A judge's verdict: refused with a number, or what is to be done, up to three channels changed and perhaps a count raised.
-#[derive(Clone, Copy)]
+// What is to be done where a judge accepts: up to three channels changed. `value` is the event's; `raises`: it is its master's new
+// count too. (So no Option: an event has a value whether or not it raises a count.)
+#[derive(Clone, Copy, Debug, PartialEq, Eq)]
 pub struct Plan {
-    pub refusal: u8,
     pub value: u16,
     pub raises: bool,
     pub first: Act,

@@ -1,219 +1,217 @@
--- What the channels of a lent state answer makes the record's own plan; and the plan, settled, is the step.
--- A question that is not put is one whose answer no ground reads: of a begin no entry is looked for, and of a record that is refused already nothing is asked at all.
+-- What the channels of a lent state answer makes the event's own plan.
+-- A question that is not put is one whose answer no ground reads: of a begin no entry is looked for, and where the entry is not there
+-- nothing else decides.
+use Rattle.std.specs.Prelude.{Option, Some, None, Ok}
+use Rattle.std.specs.Option.{option_map}
 use Prim.Native.Nat.{ℕ}
 use mathlib.Core.Path.{◌≡◌, refl, ap, sym, subst, ◌∙◌}
 use mathlib.Core.List.{List}
-use mathlib.Core.Bool.{Bool, true, false, cond, not, ◌&&◌}
-use lib.Dec.{eqb, leb}
+use mathlib.Core.Bool.{Bool}
 use lib.ListN.{get_or}
-use borrow.Author.Tests.{eq-eqb}
-use Rattle.base.specs.Grounds.{refusal}
-use Rattle.base.proofs.Logic.{split, there, true_false}
-use Rattle.chassis.specs.declared.Agent.{Agent}
+use Rattle.base.specs.Lists.{is_some}
+use Rattle.base.proofs.Logic.{split, there}
 use Rattle.chassis.specs.declared.Chan.{Chan}
 use Rattle.chassis.specs.declared.NextPlace.{NextPlace}
 use Rattle.chassis.specs.declared.NextPlace.TheVariants.{Target, Through}
 use Rattle.chassis.specs.declared.Table.{Table}
-use Rattle.chassis.specs.Channels.{is_master, limit}
+use Rattle.chassis.specs.Channels.{is_master}
 use Rattle.queue.specs.declared.Transaction.{Transaction}
 use Rattle.queue.specs.declared.Entry.{Entry}
 use Rattle.queue.specs.declared.Look.{Look}
-use Rattle.queue.specs.Entries.{R, C}
-use Rattle.queue.specs.Queues.{has_matching}
+use Rattle.queue.specs.Entries.{R, C, is_named, matches}
+use Rattle.queue.specs.Queues.{oldest, has_matching, behind_P}
 use Rattle.queue.specs.Packing.{live}
-use Rattle.queue.specs.code.Changes.{look_by, look_of, match_of, dull}
-use Rattle.queue.proofs.Matching.{matches_its_name}
+use Rattle.queue.specs.code.Changes.{look_by, look_of, match_of}
+use Rattle.queue.proofs.Matching.{matching_is_naming}
 use Rattle.lent_channels.specs.Looks.{look_asked, filling_asked, first_asked}
 use Rattle.network.specs.declared.State.{State}
 use Rattle.network.specs.Nets.{view}
-use Rattle.network.specs.code.Acts.{channel_at, acted_on}
-use Rattle.events.specs.declared.Decoded.{Decoded}
-use Rattle.events.specs.declared.Decoded.TheVariants.{Known, Unfit}
-use Rattle.events.specs.Grounds.{grounds}
+use Rattle.network.specs.code.Acts.{channel_at}
+use Rattle.events.specs.Records.{Decoded}
 use Rattle.events.specs.declared.Event.{Event}
 use Rattle.events.specs.declared.Event.TheVariants.{BeginPosted, BeginRead, BeginWrite, Commit, Post, Latch, Complete, DropRequest, DropCompletion}
-use Rattle.events.specs.Accounts.{account}
-use Rattle.events.specs.Steps.{inner_step, record_step}
+use Rattle.events.specs.Accounts.{account, is_begin}
 use Rattle.events.proofs.SoundStays.{Right}
 use Rattle.read_events.specs.declared.Frame.{Frame}
 use Rattle.read_events.specs.declared.Sight.{Sight}
-use Rattle.read_events.specs.Frames.{frame, ahead_or, answer_or, back_or}
-use Rattle.read_events.specs.Sights.{small, next_told, sight_told}
-use Rattle.read_events.proofs.Onward.{chan_low, Onward, told_onward, onward_small, ahead_there, answer_there, back_there}
-use Rattle.judge_events.specs.declared.Plan.{Plan}
-use Rattle.judge_events.specs.Plans.{refused_plan, plan, record_plan}
-use Rattle.judge_events.specs.Verdicts.{verdict, frame_verdict}
+use Rattle.read_events.specs.Frames.{own_frame, event_frame, frame, next_of, ahead_or, answer_or, back_or}
+use Rattle.read_events.specs.Sights.{small, entry_in, next_told, sight_told}
+use Rattle.read_events.proofs.Onward.{Onward, told_onward}
+use Rattle.judge_events.specs.Plans.{plan}
+use Rattle.judge_events.specs.Verdicts.{verdict}
 use Rattle.play_events.specs.declared.Notice.{Notice}
-use Rattle.play_events.specs.Notices.{look_told, Aimed, beside, notice, told_plan}
-use Rattle.play_events.proofs.Reading.{Framed, framed, Planned, planned}
-use Rattle.play_events.proofs.Carried.{accepted_number, stored}
-use Rattle.lent_plays.specs.Asks.{seeking, sought_for, asks_for, told_so, plan_seen, InPlace, Stored, settled}
+use Rattle.play_events.specs.Notices.{look_told, Aimed, beside}
+use Rattle.play_events.proofs.Told.{by_test}
+use Rattle.play_events.proofs.Shown.{next_right}
+use Rattle.play_events.proofs.Reading.{Framed, framed, Noticed, beside_there, own_plan}
+use Rattle.lent_plays.specs.Asks.{sought_for, asks_for, fills, plan_seen, InPlace}
 
 -- ---- the sight that the answers make, against the one that a judge is told
 
--- an entry that matches the request is looked for by the request's name
-by_name : (k : ℕ) (r : Entry) (l : List Entry) → look_of k r.transaction l ≡ match_of k r l
+mapped : {A B : Type 0} (f : A → B) (o : Option A) → is_some (option_map f o) ≡ is_some o
+mapped f None = refl
+mapped f (Some a) = refl
+
+-- where the request stands, what goes with it is found by the request's name
+by_name : (t : Transaction) (l : List Entry) (x : Entry) → oldest R t l ≡ Some x → (k : ℕ) (m : List Entry) → look_of k t m ≡ match_of k x m
 unfolding look_of match_of
-by_name k r l = ap (λ (p : Entry → Bool). look_by p l) (sym (matches_its_name k r))
+by_name t l x h k m =
+    let named : matches k x ≡ is_named k t = rw h at (matching_is_naming k t l (rw h)) in
+    ap (λ (p : Entry → Bool). look_by p m) (sym named)
 
-has_by_name : (k : ℕ) (r : Entry) (l : List Entry) → (look_of k r.transaction l).found ≡ has_matching k r l
-unfolding match_of
-has_by_name k r l = ap (λ (x : Look). x.found) (by_name k r l)
-
-sight_path : {f g w x : Bool} {a b : Look} {o : Bool} → f ≡ g → w ≡ x → a ≡ b → ◌≡◌ {A = Sight} (record { full = f; waits = w; answer = a; oldest = o }) (record { full = g; waits = x; answer = b; oldest = o })
+sight_path : {f g w x : Bool} {a b : Option Look} {o : Bool} → f ≡ g → w ≡ x → a ≡ b → ◌≡◌ {A = Sight} (record { full = f; waits = w; answer = a; oldest = o }) (record { full = g; waits = x; answer = b; oldest = o })
 sight_path {o = o} p q r = λ i. record { full = p i; waits = q i; answer = r i; oldest = o }
 
-module _ (s : State) (T : Table) (f : Frame) (count : ℕ) where
+module _ (s : State) (f : Frame) (count : ℕ) where
+  abbrev T : Table
+  T = s.table
+
   abbrev at : Chan → List Entry
   at N = live (channel_at s N)
 
-  abbrev answers : Notice → Event → Sight
-  answers n e = record {
-    full = cond (asks_for T f n e).counted.asked (leb (limit T (asks_for T f n e).counted.kind) (filling_asked (asks_for T f n e).counted (at (asks_for T f n e).room))) false;
-    waits = (look_asked (seeking (asks_for T f n e).waits R n.look.entry.transaction) (at n.ahead)).found;
-    answer = look_asked (seeking (asks_for T f n e).answers C n.look.entry.transaction) (at n.answer);
-    oldest = first_asked (seeking (asks_for T f n e).oldest C (account e).name) (at f.at);
-  }
+  -- what the answers make, and what is told
+  abbrev answers : Option Look → NextPlace → Event → Sight
+  answers l next e =
+      let n = beside T f l next in
+      record {
+        full = fills T (asks_for T f n e).counted (filling_asked (asks_for T f n e).counted (at (asks_for T f n e).room));
+        waits = is_some (look_asked (asks_for T f n e).waits (at n.ahead));
+        answer = look_asked (asks_for T f n e).answers (at n.answer);
+        oldest = first_asked (asks_for T f n e).oldest (at f.at);
+      }
 
-  abbrev told : Notice → Event → Sight
-  told n e = sight_told T n.next n.look.entry (at f.at) (at n.ahead) (at n.answer) (at n.back) e
+  abbrev told : Option Look → NextPlace → Event → Sight
+  told l next e = sight_told T next (entry_in l) (at f.at) (at (ahead_or f.at next)) (at (answer_or T f.at next)) (at (back_or T f.at)) e
 
-  -- a latch's, and a complete's whose request is there
-  latch_told : (l : Look) (X N : Chan) (t : Transaction) → answers (beside T f l (Through X)) (Latch N t) ≡ told (beside T f l (Through X)) (Latch N t)
-  latch_told l X N t = sight_path refl (has_by_name R l.entry (at X)) (by_name C l.entry (at (answer_or T f.at (Through X))))
+  abbrev Same : Event → NextPlace → Option Look → Type 0
+  Same e next l = verdict T e count l next (answers l next e) ≡ verdict T e count l next (told l next e)
 
-  room_back : (m found full : Bool) → found ≡ true → cond (cond found (not m) false) full false ≡ not m && full
-  room_back true found full h = rw h
-  room_back false found full h = rw h
+  module _ (N : Chan) (t : Transaction) (w : Look) (named : (k : ℕ) (m : List Entry) → look_of k t m ≡ match_of k w.entry m) where
+    has_named : (m : List Entry) → is_some (look_of R t m) ≡ has_matching R w.entry m
+    unfolding match_of
+    has_named m = ap is_some (named R m) ∙ mapped _ _
 
-  complete_full : (l : Look) (next : NextPlace) (N : Chan) (t : Transaction) → l.found ≡ true → (answers (beside T f l next) (Complete N t)).full ≡ (told (beside T f l next) (Complete N t)).full
-  complete_full l next N t h =
-      split (is_master T N)
-      (λ m. rw (h, m))
-      (λ m. rw (h, m))
+    latch_told : (next : NextPlace) → answers (Some w) next (Latch N t) ≡ told (Some w) next (Latch N t)
+    latch_told Target = refl
+    latch_told (Through X) = sight_path refl (has_named (at X)) (named C (at (answer_or T f.at (Through X))))
 
-  complete_answer : (l : Look) (next : NextPlace) (N : Chan) (t : Transaction) → (answers (beside T f l next) (Complete N t)).answer ≡ (told (beside T f l next) (Complete N t)).answer
-  complete_answer l Target N t = refl
-  complete_answer l (Through X) N t = by_name C l.entry (at (answer_or T f.at (Through X)))
+    complete_answer : (next : NextPlace) → (answers (Some w) next (Complete N t)).answer ≡ (told (Some w) next (Complete N t)).answer
+    complete_answer Target = refl
+    complete_answer (Through X) = named C (at (answer_or T f.at (Through X)))
 
-  same_verdict : (l : Look) (next : NextPlace) (e : Event) → verdict T e count l next (answers (beside T f l next) e) ≡ verdict T e count l next (told (beside T f l next) e)
+    complete_told : (next : NextPlace) → answers (Some w) next (Complete N t) ≡ told (Some w) next (Complete N t)
+    complete_told next = sight_path (split (is_master T N) (λ m. rw m) (λ m. rw m)) refl (complete_answer next)
+
+  -- where the entry is not there, and where it is
+  by_look : (e : Event) (next : NextPlace) (t : Transaction) → Same e next None → ((w : Look) → ((k : ℕ) (m : List Entry) → look_of k t m ≡ match_of k w.entry m) → Same e next (Some w)) → Same e next (look_of R t (at f.at))
+  unfolding look_of
+  by_look e next t none some =
+      there (oldest R t (at f.at))
+      (λ h. subst (Same e next) (sym (ap (option_map _) h)) none)
+      (λ x h. subst (Same e next) (sym (ap (option_map _) h)) (some (record { behind = behind_P (is_named R t) (at f.at); entry = x }) (by_name t (at f.at) x h)))
+
+  same_verdict : (e : Event) (next : NextPlace) → Same e next (look_of (account e).kind (account e).name (at f.at))
   unfolding verdict
-  same_verdict l next (BeginPosted m a) = refl
-  same_verdict l next (BeginRead m a) = refl
-  same_verdict l next (BeginWrite m a) = refl
-  same_verdict l next (Commit N t) = refl
-  same_verdict l Target (Post N t) = refl
-  same_verdict l (Through X) (Post N t) = refl
-  same_verdict l Target (Latch N t) = refl
-  same_verdict l (Through X) (Latch N t) = ap (λ (g : Sight). verdict T (Latch N t) count l (Through X) g) (latch_told l X N t)
-  same_verdict l next (Complete N t) =
-      split l.found
-      (λ h. ap (λ (g : Sight). verdict T (Complete N t) count l next g) (sight_path (complete_full l next N t h) refl (complete_answer l next N t)))
-      (λ h. rw h)
-  same_verdict l next (DropRequest N t) = refl
-  same_verdict l next (DropCompletion N t) = refl
-
-  -- a begin's verdict reads neither the look nor the next place
-  begins_alone : (l l₀ : Look) (next next₀ : NextPlace) (e : Event) → (account e).begins ≡ true → verdict T e count l next (told (beside T f l next) e) ≡ verdict T e count l₀ next₀ (told (beside T f l₀ next₀) e)
-  unfolding verdict
-  begins_alone l l₀ next next₀ (BeginPosted m a) h = refl
-  begins_alone l l₀ next next₀ (BeginRead m a) h = refl
-  begins_alone l l₀ next next₀ (BeginWrite m a) h = refl
-  begins_alone l l₀ next next₀ (Commit N t) h = absurd (true_false (sym h))
-  begins_alone l l₀ next next₀ (Post N t) h = absurd (true_false (sym h))
-  begins_alone l l₀ next next₀ (Latch N t) h = absurd (true_false (sym h))
-  begins_alone l l₀ next next₀ (Complete N t) h = absurd (true_false (sym h))
-  begins_alone l l₀ next next₀ (DropRequest N t) h = absurd (true_false (sym h))
-  begins_alone l l₀ next next₀ (DropCompletion N t) h = absurd (true_false (sym h))
+  same_verdict (BeginPosted m a) next = refl
+  same_verdict (BeginRead m a) next = refl
+  same_verdict (BeginWrite m a) next = refl
+  same_verdict (Commit N t) next = refl
+  same_verdict (Post N t) Target = refl
+  same_verdict (Post N t) (Through X) = refl
+  same_verdict (Latch N t) next =
+      by_look (Latch N t) next t refl (λ w named. ap (λ (g : Sight). verdict T (Latch N t) count (Some w) next g) (latch_told N t w named next))
+  same_verdict (Complete N t) next =
+      by_look (Complete N t) next t refl (λ w named. ap (λ (g : Sight). verdict T (Complete N t) count (Some w) next g) (complete_told N t w named next))
+  same_verdict (DropRequest N t) next = refl
+  same_verdict (DropCompletion N t) next = refl
 
 -- ---- what is noticed of a record, and its plan
 
-abbrev pub seen : State → Frame → Look
+abbrev pub seen : State → Frame → Option Look
 seen s f = look_asked (sought_for f) (live (channel_at s f.at))
 
 abbrev pub on : State → Frame → NextPlace
 on s f = next_told s.table f.event f.at (seen s f)
 
-module _ (s : State) (r : Right s) (d : Decoded) (f : Frame) (isf : f ≡ frame s.table d) where
-  abbrev T : Table
-  T = s.table
+module _ (s : State) where
+  abbrev here : Frame → Option Look
+  here x = look_told x (live (channel_at s x.at))
 
-  abbrev here : List Entry
-  here = live (channel_at s f.at)
+  abbrev next : Frame → NextPlace
+  next x = next_told s.table x.event x.at (here x)
 
-  abbrev count : ℕ
-  count = get_or s.begins f.master.0 0
+  -- the plan that is seen, against the verdict of what is told
+  abbrev Judged : Frame → Type 0
+  Judged x =
+      plan_seen s s.table x (beside s.table x (seen s x) (on s x))
+      ≡ verdict s.table x.event (get_or s.begins x.master.0 0) (here x) (next x) (told s x (get_or s.begins x.master.0 0) (here x) (next x) x.event)
 
-  abbrev n : Notice
-  n = beside T f (seen s f) (on s f)
+  abbrev same_frame : (e : Event) → Same s (own_frame e) (get_or s.begins (account e).name.master.0 0) e (next (own_frame e)) (here (own_frame e))
+  same_frame e = same_verdict s (own_frame e) (get_or s.begins (account e).name.master.0 0) e (next (own_frame e))
 
-  abbrev n₀ : Notice
-  n₀ = beside T f (look_told f here) (next_told T f.event f.at (look_told f here))
+  judged : (e : Event) → Judged (own_frame e)
+  unfolding plan_seen verdict
+  judged (BeginPosted m a) = refl
+  judged (BeginRead m a) = refl
+  judged (BeginWrite m a) = refl
+  judged (Commit N t) = same_frame (Commit N t)
+  judged (Post N t) = same_frame (Post N t)
+  judged (Latch N t) = same_frame (Latch N t)
+  judged (Complete N t) = same_frame (Complete N t)
+  judged (DropRequest N t) = same_frame (DropRequest N t)
+  judged (DropCompletion N t) = same_frame (DropCompletion N t)
 
-  judged : eqb f.refusal 0 ≡ true → verdict T f.event count n.look n.next (answers s T f count n f.event) ≡ verdict T f.event count n₀.look n₀.next (told s T f count n₀ f.event)
-  judged h =
-      split (account f.event).begins
-      (λ b. same_verdict s T f count n.look n.next f.event ∙ begins_alone s T f count n.look n₀.look n.next n₀.next f.event b)
-      (λ b.
-      let e : seen s f ≡ look_told f here = rw (h, b) in
-      same_verdict s T f count n.look n.next f.event
-      ∙ ap (λ (l : Look). verdict T f.event count l (next_told T f.event f.at l) (told s T f count (beside T f l (next_told T f.event f.at l)) f.event)) e)
+next_own : (s : State) (e : Event) → on s (own_frame e) ≡ next_of (view s) e
+unfolding next_of
+next_own s (BeginPosted m a) = refl
+next_own s (BeginRead m a) = refl
+next_own s (BeginWrite m a) = refl
+next_own s (Commit N t) = next_right s (Commit N t) _ refl _ refl
+next_own s (Post N t) = next_right s (Post N t) _ refl _ refl
+next_own s (Latch N t) = next_right s (Latch N t) _ refl _ refl
+next_own s (Complete N t) = next_right s (Complete N t) _ refl _ refl
+next_own s (DropRequest N t) = next_right s (DropRequest N t) _ refl _ refl
+next_own s (DropCompletion N t) = next_right s (DropCompletion N t) _ refl _ refl
 
-  as_told : plan_seen s T f n ≡ told_plan T f count (notice T f here) here (live (channel_at s (notice T f here).ahead)) (live (channel_at s (notice T f here).answer)) (live (channel_at s (notice T f here).back))
-  unfolding plan_seen told_so told_plan notice frame_verdict
-  as_told = split (eqb f.refusal 0) (λ h. ap (λ (x : Plan). cond (eqb f.refusal 0) x (refused_plan f.refusal)) (judged h)) (λ h. rw h)
+module _ (s : State) (r : Right s) (d : Decoded) (f : Frame) (isf : frame s.table d ≡ Ok f) where
+  abbrev pub n : Notice
+  n = beside s.table f (seen s f) (on s f)
 
-  pub answered : Planned s d (plan_seen s T f n)
-  answered = planned s r d f isf (notice T f here) refl (plan_seen s T f n) as_told
-
-  pub frames : Framed s f
+  pub frames : Framed s d f
   frames = framed s r d f isf
 
-  onward : Onward T frames.passes (on s f)
-  onward = told_onward T frames.passes f.event f.at (seen s f) frames.has_at
+  its_frame : event_frame s.table f.event ≡ Ok f
+  its_frame = subst (λ (x : Decoded). frame s.table x ≡ Ok f) frames.is isf
+
+  -- the plan that is seen is the event's own
+  pub answered : plan_seen s s.table f n ≡ plan (view s) f.event
+  answered = subst (Judged s) (sym frames.own) (judged s f.event) ∙ own_plan s f frames.own its_frame
+
+  -- and the next place is the event's own, also where no entry was looked for: a begin moves nothing
+  pub next_seen : on s f ≡ next_of (view s) f.event
+  next_seen = subst (λ (x : Frame). on s x ≡ next_of (view s) x.event) (sym frames.own) (next_own s f.event)
+
+  onward : Onward s.table frames.passes (on s f)
+  onward = told_onward s.table frames.passes f.event f.at (seen s f) frames.has_at
+
+  besides : Noticed n
+  besides = beside_there s r f.at frames.has_at f refl (seen s f) (on s f) onward
 
   -- every place that is looked at is there
   pub in_place : InPlace f n
-  in_place =
-      let ok = frames.passes in
-      record {
-        at = frames.at;
-        ahead = chan_low T ok (ahead_or f.at (on s f)) (ahead_there T ok f.at (on s f) frames.has_at onward);
-        answer = chan_low T ok (answer_or T f.at (on s f)) (answer_there T ok f.at (on s f) frames.has_at onward);
-        back = chan_low T ok (back_or T f.at) (back_there T ok f.at frames.has_at);
-        master = frames.master;
-        number = frames.number;
-        next = onward_small T ok (on s f) onward;
-      }
+  in_place = record {
+    at = frames.at;
+    ahead = besides.ahead;
+    answer = besides.answer;
+    back = besides.back;
+    master = frames.master;
+    number = frames.number;
+    next = besides.next;
+  }
 
   -- an entry that was found is bound for an agent of the table
-  pub aims : Aimed T (seen s f)
-  aims =
-      split (sought_for f).asked
-      (λ h. subst (λ (b : Bool). Aimed T (cond b (look_told f here) dull)) (sym h) frames.aimed)
-      (λ h. subst (λ (b : Bool). Aimed T (cond b (look_told f here) dull)) (sym h) (λ k. absurd (true_false (sym k))))
+  pub aims : Aimed s.table (seen s f)
+  aims = by_test (λ q. Aimed s.table (look_asked q (live (channel_at s f.at)))) (is_begin f.event) (λ b. tt) (λ b. frames.aimed)
 
   pub next_small : small (on s f)
-  next_small = onward_small T frames.passes (on s f) onward
-
-  -- every place that is stored to is there
-  pub storing : Stored f.master (plan_seen s T f n)
-  storing = record { first = answered.first; second = answered.second; third = answered.third; master = frames.master }
-
--- ---- a plan settled is the step
-
--- a record that is refused leaves the state
-left_alone : (s : State) (d : Decoded) → eqb (record_plan (view s) d).refusal 0 ≡ false → (record_step s d).state ≡ s
-unfolding record_plan plan inner_step
-left_alone s Unfit h = refl
-left_alone s (Known e) h =
-    there (refusal (grounds (view s) e))
-    (λ k. absurd (true_false (sym (eq-eqb _ 0 (accepted_number (view s) e)) ∙ (rw k at h))))
-    (λ n k. rw k)
-
-pub settles : (s : State) (r : Right s) (d : Decoded) (p : Plan) → p ≡ record_plan (view s) d → (m : Agent) → m ≡ (frame s.table d).master → settled s m p ≡ (record_step s d).state
-unfolding settled acted_on
-settles s r d p isp m ism =
-    split (eqb p.refusal 0)
-    (λ h. rw h (stored s r d p isp m ism (get_or s.begins m.0 0) refl))
-    (λ h. rw h (sym (left_alone s d (sym (ap (λ (x : Plan). eqb x.refusal 0) isp) ∙ h))))
+  next_small = besides.next

@@ -1,5 +1,6 @@
 -- What a record asks of which channel, and what is said once the channels have answered. That it is the record's own plan: proofs/Answered.antt.
-use Rattle.std.specs.Prelude.{ℕ, ◌<◌, Bool, true, false, cond, not, eqb, leb, get_or}
+use Rattle.std.specs.Prelude.{ℕ, ◌<◌, Bool, false, cond, leb, get_or, Option, None, Some}
+use Rattle.base.specs.Lists.{is_some}
 use Rattle.chassis.specs.declared.Agent.{Agent}
 use Rattle.chassis.specs.declared.Chan.{Chan}
 use Rattle.chassis.specs.declared.NextPlace.{NextPlace}
@@ -17,63 +18,76 @@ use Rattle.network.specs.declared.State.{State}
 use Rattle.network.specs.code.Acts.{channel_at, acted_on, counted}
 use Rattle.events.specs.declared.Event.{Event}
 use Rattle.events.specs.declared.Event.TheVariants.{BeginPosted, BeginRead, BeginWrite, Commit, Post, Latch, Complete, DropRequest, DropCompletion}
-use Rattle.events.specs.Accounts.{account}
+use Rattle.events.specs.Accounts.{account, is_begin}
 use Rattle.read_events.specs.declared.Frame.{Frame}
 use Rattle.read_events.specs.Sights.{small}
 use Rattle.judge_events.specs.declared.Plan.{Plan}
-use Rattle.judge_events.specs.Verdicts.{frame_verdict}
+use Rattle.judge_events.specs.Verdicts.{Verdict, verdict}
 use Rattle.play_events.specs.declared.Notice.{Notice}
 use Rattle.lent_plays.specs.declared.Asks.{Asks}
 
-abbrev pub through : NextPlace → Bool
-through Target = false
-through (Through X) = true
+-- what is asked of a bridge channel N1 is not asked at the target
+abbrev pub if_through : {A : Type 0} → NextPlace → A → Option A
+if_through Target x = None
+if_through (Through X) x = Some x
 
-abbrev pub seeking : Bool → ℕ → Transaction → Sought
-seeking asked k t = record { asked = asked; kind = k; transaction = t }
+abbrev pub named : ℕ → Transaction → Sought
+named k t = record { kind = k; transaction = t }
 
--- the entry that a record names: not of a begin, nor of a record that is refused already
-abbrev pub sought_for : Frame → Sought
-sought_for f = seeking (cond (eqb f.refusal 0) (not (account f.event).begins) false) (account f.event).kind (account f.event).name
+-- the entry that a record names: not of a begin
+abbrev pub sought_for : Frame → Option Sought
+sought_for f = cond (is_begin f.event) None (Some (named (account f.event).kind (account f.event).name))
 
-abbrev pub asking : Chan → Bool → ℕ → Bool → Bool → Asks
-asking N counts k waits answers = record { room = N; counted = record { asked = counts; kind = k }; waits = waits; answers = answers; oldest = false }
+-- room for an entry of a kind is asked of one channel, where it is asked
+abbrev pub asks_room : Chan → Option ℕ → Asks
+asks_room N k = record { room = N; counted = k; waits = None; answers = None; oldest = None }
 
-abbrev pub asking_oldest : Chan → Asks
-asking_oldest N = record { room = N; counted = record { asked = false; kind = P }; waits = false; answers = false; oldest = true }
+-- where the request is there, and not in a master channel, room is asked for its answer
+abbrev pub back_room : Table → Chan → Option Look → Option ℕ
+back_room T N None = None
+back_room T N (Some l) = cond (is_master T N) None (Some C)
 
 module _ (T : Table) (f : Frame) (n : Notice) where
   abbrev pub asks_for : Event → Asks
-  asks_for (BeginPosted m a) = asking f.at true P false false
-  asks_for (BeginRead m a) = asking f.at true R false false
-  asks_for (BeginWrite m a) = asking f.at true R false false
-  asks_for (Commit N t) = asking f.at false P false false
-  asks_for (Post N t) = asking n.ahead (through n.next) P false false
-  asks_for (Latch N t) = asking n.ahead (through n.next) R (through n.next) (through n.next)
-  asks_for (Complete N t) = asking n.back (cond n.look.found (not (is_master T N)) false) C false (through n.next)
-  asks_for (DropRequest N t) = asking f.at false P false false
-  asks_for (DropCompletion N t) = asking_oldest f.at
+  asks_for (BeginPosted m a) = asks_room f.at (Some P)
+  asks_for (BeginRead m a) = asks_room f.at (Some R)
+  asks_for (BeginWrite m a) = asks_room f.at (Some R)
+  asks_for (Commit N t) = asks_room f.at None
+  asks_for (Post N t) = asks_room n.ahead (if_through n.next P)
+  asks_for (Latch N t) = record {
+    room = n.ahead;
+    counted = if_through n.next R;
+    waits = if_through n.next (named R t);
+    answers = if_through n.next (named C t);
+    oldest = None;
+  }
+  asks_for (Complete N t) = record {
+    room = n.back;
+    counted = back_room T N n.look;
+    waits = None;
+    answers = if_through n.next (named C t);
+    oldest = None;
+  }
+  asks_for (DropRequest N t) = asks_room f.at None
+  asks_for (DropCompletion N t) = record { room = f.at; counted = None; waits = None; answers = None; oldest = Some (named C t) }
 
   abbrev pub asks : Asks
   asks = asks_for f.event
 
-unfoldable pub told_so : Table → Frame → Notice → Asks → ℕ → ℕ → Look → Look → Bool → Plan
-told_so T f n k count filled waits answer oldest =
-    frame_verdict T f count n.look n.next (record {
-      full = cond k.counted.asked (leb (limit T k.counted.kind) filled) false;
-      waits = waits.found;
-      answer = answer;
-      oldest = oldest;
-    })
+-- so many of a kind are its limit, where it is asked
+abbrev pub fills : Table → Option ℕ → ℕ → Bool
+fills T None filled = false
+fills T (Some k) filled = leb (limit T k) filled
 
 -- what the channels of s answer, and the plan
-unfoldable pub plan_seen : State → Table → Frame → Notice → Plan
+unfoldable pub plan_seen : State → Table → Frame → Notice → Verdict
 plan_seen s T f n =
-    told_so T f n (asks T f n) (get_or s.begins f.master.0 0)
-    (filling_asked (asks T f n).counted (live (channel_at s (asks T f n).room)))
-    (look_asked (seeking (asks T f n).waits R n.look.entry.transaction) (live (channel_at s n.ahead)))
-    (look_asked (seeking (asks T f n).answers C n.look.entry.transaction) (live (channel_at s n.answer)))
-    (first_asked (seeking (asks T f n).oldest C (account f.event).name) (live (channel_at s f.at)))
+    verdict T f.event (get_or s.begins f.master.0 0) n.look n.next (record {
+      full = fills T (asks T f n).counted (filling_asked (asks T f n).counted (live (channel_at s (asks T f n).room)));
+      waits = is_some (look_asked (asks T f n).waits (live (channel_at s n.ahead)));
+      answer = look_asked (asks T f n).answers (live (channel_at s n.answer));
+      oldest = first_asked (asks T f n).oldest (live (channel_at s f.at));
+    })
 
 -- every place that is looked at is there
 pub record InPlace (f : Frame) (n : Notice) : Type 0 where
@@ -95,6 +109,6 @@ pub record Stored (m : Agent) (p : Plan) : Type 0 where
 abbrev acted : State → Plan → State
 acted s p = acted_on (acted_on (acted_on s p.first) p.second) p.third
 
--- what a plan makes of s: nothing where it is refused
+-- what a plan makes of s; m is the event's master
 unfoldable pub settled : State → Agent → Plan → State
-settled s m p = cond (eqb p.refusal 0) (counted (acted s p) m (cond p.raises p.value (get_or (acted s p).begins m.0 0))) s
+settled s m p = counted (acted s p) m (cond p.raises p.value (get_or (acted s p).begins m.0 0))

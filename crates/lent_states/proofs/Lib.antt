@@ -1,3 +1,2 @@
--- Laws of a lent state: the entries in its channels, and what is written over it.
+-- Laws of a lent state: the entries in its channels.
 pub mod Held
-pub mod Opened

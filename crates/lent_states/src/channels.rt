@@ -7,11 +7,11 @@ ghost use Rattle.network.specs.code.Acts.{channel_at, acted_on};
 ghost use Rattle.lent_channels.specs.Looks.{look_asked, filling_asked, first_asked};
 
 use chassis::Chan;
+use lent_channels::Sought;
 use lent_channels::changes::change_in;
 use lent_channels::looks::{filling_in, first_c_in, looked_in};
-use lent_channels::{Counted, Sought};
 use network::{Act, State};
-use queue::{Change, Look};
+use queue::Look;
 
 // The channel at a place of the array.
 pub fn chan_of(i: usize) -> Chan
@@ -21,47 +21,31 @@ pub fn chan_of(i: usize) -> Chan
     Chan(i as u8)
 }
 
-pub fn look_at(s: &State, n: Chan, q: Sought) -> Look
+pub fn look_at(s: &State, n: Chan, q: Option<Sought>) -> Option<Look>
     requires { n.0 < most_channels }
     ensures { result ≡ look_asked q (live (channel_at s.now n)) }
 {
-    let i = n.0 as usize;
-    looked_in(&s.channels[i], q)
+    looked_in(&s.channels[n.0 as usize], q)
 }
 
-pub fn filling_at(s: &State, n: Chan, q: Counted) -> usize
+pub fn filling_at(s: &State, n: Chan, q: Option<u8>) -> usize
     requires { n.0 < most_channels }
     ensures { result ≡ filling_asked q (live (channel_at s.now n)) }
 {
-    let i = n.0 as usize;
-    filling_in(&s.channels[i], q)
+    filling_in(&s.channels[n.0 as usize], q)
 }
 
-pub fn first_c_at(s: &State, n: Chan, q: Sought) -> bool
+pub fn first_c_at(s: &State, n: Chan, q: Option<Sought>) -> bool
     requires { n.0 < most_channels }
     ensures { result ≡ first_asked q (live (channel_at s.now n)) }
 {
-    let i = n.0 as usize;
-    first_c_in(&s.channels[i], q)
+    first_c_in(&s.channels[n.0 as usize], q)
 }
 
-fn place_of(a: Act) -> usize
-    ensures { result ≡ a.at.0 }
-{
-    a.at.0 as usize
-}
-
-fn change_of(a: Act) -> Change
-    ensures { result ≡ a.change }
-{
-    a.change
-}
-
+#[tactic(auto, unfolding(network::specs::code::Acts::acted_on))]
 pub fn act_at(s: &mut State, a: Act)
     requires { a.at.0 < most_channels }
     ensures { s.new ≡ acted_on s.old a }
 {
-    let i = place_of(a);
-    let ch = change_of(a);
-    change_in(&mut s.channels[i], ch);
+    change_in(&mut s.channels[a.at.0 as usize], a.change);
 }

@@ -25,8 +25,7 @@ pub fn channel_in(s: &State, n: Chan) -> Channel
     requires { n.0 < most_channels }
     ensures { result ≡ channel_at s.now n }
 {
-    let i = n.0 as usize;
-    s.channels[i]
+    s.channels[n.0 as usize]
 }
 
 // How many entries a channel holds.
@@ -34,24 +33,22 @@ pub fn held_at(s: &State, n: Chan) -> usize
     requires { n.0 < most_channels }
     ensures { result ≡ (channel_at s.now n).count }
 {
-    let i = n.0 as usize;
-    s.channels[i].count
+    s.channels[n.0 as usize].count
 }
 
 pub fn count_in(s: &State, m: Agent) -> u16
     requires { m.0 < most_agents }
     ensures { result ≡ get_or s.now.begins m.0 0 }
 {
-    let i = m.0 as usize;
-    s.begins[i]
+    s.begins[m.0 as usize]
 }
 
+#[tactic(auto, unfolding(network::specs::code::Acts::counted))]
 pub fn put_count(s: &mut State, m: Agent, n: u16)
     requires { m.0 < most_agents }
     ensures { s.new ≡ counted s.old m n }
 {
-    let i = m.0 as usize;
-    s.begins[i] = n;
+    s.begins[m.0 as usize] = n;
 }
 
 pub fn put_table(s: &mut State, t: Table)
@@ -70,6 +67,5 @@ pub fn put_channel(s: &mut State, n: Chan, c: Channel)
     requires { n.0 < most_channels }
     ensures { s.new ≡ with_channel s.old n c }
 {
-    let i = n.0 as usize;
-    s.channels[i] = c;
+    s.channels[n.0 as usize] = c;
 }

@@ -1,43 +1,27 @@
 -- Records added one by one, over any type of record: to a table, and to n places with a count.
 -- A list one record longer is what one more record makes of the list; so the code's loop, and the whole list, follow by turns.
 use Prim.Native.Nat.{ℕ, ◌+◌, ◌-◌, ◌<◌, ◌≤◌}
-use mathlib.Core.Path.{◌≡◌, refl, ap, sym, ◌∙◌}
+use mathlib.Core.Path.{◌≡◌, ap, sym, ◌∙◌}
 use mathlib.Core.Bool.{true, false, cond}
 use mathlib.Core.List.{List, [], ◌∷◌, ◌++◌, append-nil, append_assoc}
-use native.Mathlib.Numerals.{add-one}
 use native.Mathlib.Omega.{arith}
 use borrow.Author.Tests.{ltb-true, ltb-false, lt-ltb, le-ltb}
 use lib.Dec.{ltb}
-use lib.ListN.{length, get_or, take, replicate, length-append}
-use lib.Seq.{take-suc, take_all, take-append-le}
+use lib.ListN.{length, take, replicate, length-append}
+use lib.Seq.{take_all, take-append-le}
+use Rattle.std.specs.Prelude.{fold, min}
 use Rattle.base.proofs.Logic.{split}
 use Rattle.base.proofs.Padded.{add_pad}
-use Rattle.chassis.specs.declared.Table.{Table}
-use Rattle.lent_tables.specs.code.Made.{count_on, place_on, all_added}
+use Rattle.lent_tables.specs.code.Made.{count_on, place_on}
 
 -- by cases on a comparison, with the test's value
 pub by_test {ℓ} : {P : Type ℓ} (a b : ℕ) → (a < b → ltb a b ≡ true → P) → (b ≤ a → ltb a b ≡ false → P) → P
 by_test a b p q = split (ltb a b) (λ e. p (ltb-true a b e) e) (λ e. q (ltb-false a b e) e)
 
-module _ {A : Type 0} (f : Table → A → Table) where
-  pub none_added : (T : Table) → T ≡ all_added f T []
-  unfolding all_added
-  none_added T = refl
-
-  added_last : (T : Table) (l : List A) (x : A) → all_added f T (l ++ (x ∷ [])) ≡ f (all_added f T l) x
-  unfolding all_added
-  added_last T [] x = refl
-  added_last T (y ∷ l) x = added_last (f T y) l x
-
-  -- one turn of the loop that adds them
-  pub added_next : (T : Table) (l : List A) (i : ℕ) (d : A) → i < length l → f (all_added f T (take i l)) (get_or l i d) ≡ all_added f T (take (i + 1) l)
-  added_next T l i d h = rw (add-one, take-suc l i d, added_last T (take i l) (get_or l i d))
-
-  -- what one more record keeps, all of them keep
-  pub added_all : (G : List A → Table) → ((l : List A) (x : A) → f (G l) x ≡ G (l ++ (x ∷ []))) → (k l : List A) → all_added f (G k) l ≡ G (k ++ l)
-  unfolding all_added
-  added_all G on k [] = ap G (sym (append-nil k))
-  added_all G on k (x ∷ l) = ap (λ T. all_added f T l) (on k x) ∙ added_all G on (k ++ (x ∷ [])) l ∙ ap G (append_assoc k (x ∷ []) l)
+-- what one more record keeps, all of them keep
+pub added_all : {A B : Type 0} (f : B → A → B) (G : List A → B) → ((l : List A) (x : A) → f (G l) x ≡ G (l ++ (x ∷ []))) → (k l : List A) → fold f (G k) l ≡ G (k ++ l)
+added_all f G on k [] = ap G (sym (append-nil k))
+added_all f G on k (x ∷ l) = ap (λ T. fold f T l) (on k x) ∙ added_all f G on (k ++ (x ∷ [])) l ∙ ap G (append_assoc k (x ∷ []) l)
 
 -- n places and their count: a list in them, as far as it fits
 module _ {A : Type 0} (z : A) (n : ℕ) where
@@ -85,9 +69,8 @@ module _ {A : Type 0} (z : A) (n : ℕ) where
         let c : ltb (counted l) n ≡ false = le-ltb (counted l) n (by_test n (length l) (λ h' t'. rw t' (omega arith)) (λ h' t'. rw t' h)) in
         rw (c, a, b, take-append-le))
 
--- no more than c, and so no more than a list of c has
-pub most_fits : (c n : ℕ) → cond (ltb c n) c n ≤ c
-most_fits c n = by_test c n (λ h t. rw t (omega arith)) (λ h t. rw t h)
-
-pub take_most : {A : Type 0} (c n : ℕ) (l : List A) → length l ≤ c → take (cond (ltb c n) c n) l ≡ take n l
-take_most c n l k = by_test c n (λ h t. rw t (take_all c l k ∙ sym (take_all n l (omega arith)))) (λ h t. rw t refl)
+-- no more than a list has
+pub take_most : {A : Type 0} (c n : ℕ) (l : List A) → length l ≤ c → take (min n c) l ≡ take n l
+take_most c n l k = by_test c n
+    (λ h t. let e : min n c ≡ c = omega arith in rw e (take_all c l k ∙ sym (take_all n l (omega arith))))
+    (λ h t. let e : min n c ≡ n = omega arith in rw e)

@@ -20,7 +20,7 @@ use Rattle.chassis.proofs.Counts.{Counts, counts}
 use Rattle.check_tables.proofs.Asking.{says_23}
 use Rattle.lent_tables.specs.declared.Numbers.{Numbers}
 use Rattle.lent_tables.specs.Lists.{table_of, lent_answer, joined_of}
-use Rattle.lent_tables.specs.code.Made.{empty, bridge_added, home_added, all_added, joined_in}
+use Rattle.lent_tables.specs.code.Made.{no_numbers, empty, bridge_added, home_added, all_added, joined_in}
 use Rattle.lent_tables.proofs.Adding.{by_test, added_all, counted, placed, counted_over, counted_fits, placed_fits, counted_on, placed_on}
 
 module _ (m : Numbers) where
@@ -67,11 +67,11 @@ module _ (m : Numbers) where
       (λ c. omega (arith, c.agents.1)))
       (λ h t'. ap (λ T. table_answer T false) (fits gs hs g h)))
 
-  -- so is the bridge between two buses
-  pub between_gathered : (gs : List Bridge) (a b : Bus) → joined_in (all_added bridge_added (empty m) gs) a b ≡ joined_of gs a b
-  unfolding joined_in joined_of
-  between_gathered gs a b =
-      ap (λ T. joined_in T a b) (bridges_gathered gs)
-      ∙ by_test 15 (length gs)
-      (λ h t. rw (counted_over no_bridge 15 gs h, t))
-      (λ h t. rw (counted_fits no_bridge 15 gs h, placed_fits no_bridge 15 gs h, take-append_seam))
+-- so is the bridge between two buses
+pub between_gathered : (gs : List Bridge) (a b : Bus) → joined_in (all_added bridge_added (empty no_numbers) gs) a b ≡ joined_of gs a b
+unfolding joined_in joined_of
+between_gathered gs a b =
+    ap (λ T. joined_in T a b) (bridges_gathered no_numbers gs)
+    ∙ by_test 15 (length gs)
+    (λ h t. rw (counted_over no_bridge 15 gs h, t))
+    (λ h t. rw (counted_fits no_bridge 15 gs h, placed_fits no_bridge 15 gs h, take-append_seam))

@@ -1,5 +1,4 @@
 -- Laws of a table made record by record.
 pub mod Adding
 pub mod Gathered
-pub mod Searching
 pub mod Trials

@@ -1,6 +1,5 @@
 -- Lent lists with a known outcome, most of them document 01's own: as rows of one table (proofs/Trials.antt has the statement).
-use Rattle.std.specs.Prelude.{ℕ, suc, List, [], ◌∷◌, map, replicate}
-use Rattle.std.proofs.Math.Option.{Option, none, some}
+use Rattle.std.specs.Prelude.{ℕ, suc, List, [], ◌∷◌, map, replicate, Option, None, Some}
 use Rattle.base.specs.Lists.{from_to}
 use Rattle.chassis.specs.declared.Bus.{Bus}
 use Rattle.chassis.specs.declared.Bridge.{Bridge}
@@ -67,17 +66,17 @@ asks gs a b r = record { bridges = gs; from = bus a; to = bus b; answer = r }
 
 unfoldable pub questions : List Asked
 questions =
-    asks (chain 3) 1 2 (0, some 1)
+    asks (chain 3) 1 2 (0, Some 1)
     -- in either direction
-    ∷ asks (chain 3) 3 2 (0, some 2)
+    ∷ asks (chain 3) 3 2 (0, Some 2)
     -- the lowest of two
-    ∷ asks (bridge 1 0 ∷ bridge 0 1 ∷ []) 0 1 (0, some 0)
+    ∷ asks (bridge 1 0 ∷ bridge 0 1 ∷ []) 0 1 (0, Some 0)
     -- no bridge joins them, though there is a way
-    ∷ asks (chain 3) 0 2 (0, none)
-    ∷ asks [] 0 0 (0, none)
+    ∷ asks (chain 3) 0 2 (0, None)
+    ∷ asks [] 0 0 (0, None)
     -- the fifteenth bridge, and one too many
-    ∷ asks (chain 15) 14 15 (0, some 14)
-    ∷ asks (chain 16) 0 1 (23, none)
+    ∷ asks (chain 15) 14 15 (0, Some 14)
+    ∷ asks (chain 16) 0 1 (23, None)
     ∷ []
 
 abbrev pub answered : Asked → ℕ × Option ℕ

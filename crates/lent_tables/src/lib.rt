@@ -12,11 +12,3 @@ pub struct Numbers {
     pub buses: u8,
     pub limits: [u8; 3],
 }
-
-// Which bridge joins two buses: its number, or none. A list of more bridges than a table has is refused.
-#[derive(Clone, Copy)]
-pub enum Joined {
-    Refused(u8),
-    Nowhere,
-    At(u8),
-}

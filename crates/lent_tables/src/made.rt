@@ -1,25 +1,26 @@
 // A table made record by record, all by value: for every caller that has no lent list.
 
-ghost use Rattle.std.specs.Prelude.{◌≡◌, false, ◌&&◌};
+ghost use Rattle.std.specs.Prelude.{◌≡◌, ◌<◌, length, position, false, ◌&&◌, Option, Result};
 ghost use Rattle.chassis.specs.Numbers.{same_bus};
 ghost use Rattle.chassis.specs.Answers.{table_answer};
 ghost use Rattle.lent_tables.specs.Lists.{joins};
-ghost use Rattle.lent_tables.specs.code.Made.{no_numbers, empty, bridge_added, home_added, joined_in};
+ghost use Rattle.lent_tables.specs.code.Made.{no_numbers, empty, count_on, place_on, bridge_added, home_added, joined_in};
 
-use crate::{Joined, Numbers};
-use chassis::{Bridge, Bus, MOST_AGENTS, MOST_AGENTS_U8, Table, TableAnswer};
+use crate::Numbers;
+use base::Refusal;
+use chassis::{Bridge, Bus, MOST_AGENTS, Table};
 use check_tables::tables::table_answer;
 
 // No bridge and no agent yet.
 pub fn empty(m: Numbers) -> Table
     ensures { result ≡ empty m }
 {
-    let limits = m.limits;
+    let limits = m.limits; // the borrow checker takes a field that is an array out of a variable only
     Table {
         buses: m.buses,
         bridges: 0,
         agents: 0,
-        limits: limits,
+        limits,
         pairs: [Bridge {
             first: Bus(0),
             second: Bus(0),
@@ -32,11 +33,24 @@ pub fn empty(m: Numbers) -> Table
 pub fn no_table() -> Table
     ensures { result ≡ empty no_numbers }
 {
-    let none = [0; 3];
-    empty(Numbers {
-        buses: 0,
-        limits: none,
-    })
+    let limits = [0; 3];
+    empty(Numbers { buses: 0, limits })
+}
+
+// One more record behind the k that are there, and how many there are then. Where none has a place any more, one more than there are
+// places says so.
+fn put<T: Copy>(places: &mut [T], k: u8, x: T) -> u8
+    requires { length places.now < 255 }
+    ensures count { result ≡ count_on (length places.old) k }
+    ensures places { places.new ≡ place_on (length places.old) k places.old x }
+{
+    let n = places.len();
+    let i = k as usize;
+    if i < n {
+        places[i] = x;
+        return k + 1;
+    }
+    n as u8 + 1
 }
 
 // A sixteenth bridge has no place, and a count of 16 says that there was one.
@@ -44,37 +58,21 @@ pub fn add_bridge(t: Table, g: Bridge) -> Table
     ensures { result ≡ bridge_added t g }
 {
     let mut u = t;
-    let n = t.bridges;
-    if n < 15 {
-        let i = n as usize;
-        u.pairs[i] = g;
-        u.bridges = n + 1;
-        return u;
-    }
-    u.bridges = 16;
+    u.bridges = put(&mut u.pairs, t.bridges, g);
     u
 }
-
-const ONE_AGENT_TOO_MANY: u8 = MOST_AGENTS_U8 + 1;
 
 // An agent too many likewise.
 pub fn add_home(t: Table, b: Bus) -> Table
     ensures { result ≡ home_added t b }
 {
     let mut u = t;
-    let n = t.agents;
-    if n < MOST_AGENTS_U8 {
-        let i = n as usize;
-        u.homes[i] = b;
-        u.agents = n + 1;
-        return u;
-    }
-    u.agents = ONE_AGENT_TOO_MANY;
+    u.agents = put(&mut u.homes, t.agents, b);
     u
 }
 
 // Grounds 23 to 27 of a table that nothing else brought.
-pub fn checked(t: Table) -> TableAnswer
+pub fn checked(t: Table) -> Result<(), Refusal>
     ensures { result ≡ table_answer t false }
 {
     table_answer(t, false)
@@ -84,37 +82,30 @@ pub fn checked(t: Table) -> TableAnswer
 fn same_buses(g: Bridge, a: Bus, b: Bus) -> bool
     ensures { result ≡ same_bus g.first a && same_bus g.second b }
 {
-    if g.first.0 != a.0 {
-        return false;
-    }
-    g.second.0 == b.0
+    g.first == a && g.second == b
 }
 
 // In either direction.
 fn joins(g: Bridge, a: Bus, b: Bus) -> bool
     ensures { result ≡ joins a b g }
 {
-    if same_buses(g, a, b) {
-        return true;
-    }
-    same_buses(g, b, a)
+    same_buses(g, a, b) || same_buses(g, b, a)
+}
+
+fn place_between(gs: &[Bridge], a: Bus, b: Bus) -> Option<usize>
+    ensures { result ≡ position (joins a b) gs.now }
+{
+    gs.iter().position(|g| joins(*g, a, b))
 }
 
 // The lowest bridge of a table between two buses.
-pub fn bridge_between(t: Table, a: Bus, b: Bus) -> Joined
+#[tactic(auto, unfolding(crate::specs::code::Made::joined_in))]
+pub fn bridge_between(t: Table, a: Bus, b: Bus) -> Result<Option<u8>, Refusal>
     ensures { result ≡ joined_in t a b }
 {
-    let n = t.bridges;
+    let n = t.bridges as usize;
     if n > 15 {
-        return Joined::Refused(23);
+        return Err(Refusal::OutOfRange);
     }
-    let mut g: u8 = 0;
-    while g < n {
-        let i = g as usize;
-        if joins(t.pairs[i], a, b) {
-            return Joined::At(g);
-        }
-        g += 1;
-    }
-    Joined::Nowhere
+    Ok(place_between(&t.pairs[..n], a, b).map(|i| i as u8))
 }

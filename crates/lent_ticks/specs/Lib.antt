@@ -1,4 +1,4 @@
--- What is looked for among lent turns, and what is asked of those that are carried out. Only code speaks of these.
+-- What is looked for among lent turns, what a tick asks first, and what judging a record leaves. Only code speaks of these.
 pub mod Places
-pub mod Ready
 pub mod Firsts
+pub mod Judged

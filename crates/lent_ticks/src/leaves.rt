@@ -9,21 +9,19 @@ pub fn turn_at(turns: &Turns, n: usize) -> Turn
     requires { n < most_records }
     ensures { result ≡ get_or turns.now.all n no_turn }
 {
-    let i = n;
-    turns.all[i]
+    turns.all[n]
 }
 
 pub fn put_turn(turns: &mut Turns, n: usize, x: Turn)
     requires { n < most_records }
     ensures { turns.new ≡ record { all = set turns.old.all n x } }
 {
-    let i = n;
-    turns.all[i] = x;
+    turns.all[n] = x;
 }
 
 // There is a place for each record: the type says so. A proof has it where a place is read.
 pub fn places_in(turns: &Turns)
     ensures { length turns.now.all ≡ most_records }
 {
-    let _first = turns.all[0].plan.refusal;
+    let _first = turns.all[0].master;
 }

@@ -7,3 +7,4 @@ pub mod pairs; // pairs.rt: the lowest conflicting pair among them
 pub mod carrying; // carrying.rt: turns carried out where the state lies
 pub mod judging; // judging.rt: the records of a tick judged against one lent state
 pub mod ticking; // ticking.rt: the tick, whatever it is handed
+pub mod at_once; // at_once.rt: the same on a state that is handed over

@@ -1,5 +1,5 @@
 // The log's lines, as bytes.
 
-#![tactic(auto)]
+#![tactic(auto, using(crate::proofs::Texts::writing), unfolding(crate::specs::Lines::text))]
 
 pub mod lines;

@@ -9,11 +9,11 @@ fn put_decimal(out: &mut [u8], at: usize, n: u32) -> usize
     ensures { Written out.old at (decimal n) out.new result }
 {
     if n < 10 {
-        out[at] = 48 + n as u8;
+        out[at] = b'0' + n as u8;
         return at + 1;
     }
     let last = put_decimal(out, at, n / 10);
-    out[last] = 48 + (n % 10) as u8;
+    out[last] = b'0' + (n % 10) as u8;
     last + 1
 }
 
@@ -22,7 +22,7 @@ pub fn put_number(out: &mut [u8], at: usize, n: u32) -> usize
     requires { at + length (32 ∷ decimal n) ≤ length out.old }
     ensures { Written out.old at (32 ∷ decimal n) out.new result }
 {
-    out[at] = 32;
+    out[at] = b' ';
     put_decimal(out, at + 1, n)
 }
 
@@ -31,10 +31,8 @@ fn put_numbers(out: &mut [u8], at: usize, ns: &[u32]) -> usize
     ensures { Written out.old at (numbers ns.now) out.new result }
 {
     let mut end = at;
-    let mut i: usize = 0;
-    while i < ns.len() {
-        end = put_number(out, end, ns[i]);
-        i += 1;
+    for n in ns {
+        end = put_number(out, end, *n);
     }
     end
 }
@@ -43,22 +41,19 @@ fn put_word(out: &mut [u8], at: usize, word: &[u8]) -> usize
     requires { at + length word.now ≤ length out.old }
     ensures { Written out.old at word.now out.new result }
 {
-    let mut i: usize = 0;
-    while i < word.len() {
-        out[at + i] = word[i];
-        i += 1;
-    }
-    at + i
+    out[at..at + word.len()].copy_from_slice(word);
+    at + word.len()
 }
 
 // A word, its numbers, a line feed.
 fn put_line(out: &mut [u8], at: usize, word: &[u8], ns: &[u32]) -> usize
-    requires { at + length (line_of word.now ns.now) ≤ length out.old }
-    ensures { Written out.old at (line_of word.now ns.now) out.new result }
+    requires { (at + 40 ≤ length out.old) × (length (line_of word.now ns.now) ≤ 40) }
+    ensures written { Written out.old at (line_of word.now ns.now) out.new result }
+    ensures upper_bound { result ≤ at + 40 }
 {
     let behind_word = put_word(out, at, word);
     let end = put_numbers(out, behind_word, ns);
-    out[end] = 10;
+    out[end] = b'\n';
     end + 1
 }
 
@@ -72,11 +67,11 @@ pub fn put_net(out: &mut [u8], at: usize, buses: u8, bridges: u8, agents: u8) ->
         out,
         at,
         b"net",
-        &[buses as u32, bridges as u32, agents as u32],
+        &[u32::from(buses), u32::from(bridges), u32::from(agents)],
     )
 }
 
-// `e BLOCK RECORD KIND REFUSAL VALUE`
+// `e BLOCK RECORD KIND REFUSAL VALUE`. Refusals are numbers in a line: 0 stands where there is none.
 pub fn put_e(
     out: &mut [u8],
     at: usize,
@@ -94,7 +89,13 @@ pub fn put_e(
         out,
         at,
         b"e",
-        &[block, place, kind as u32, refusal as u32, value as u32],
+        &[
+            block,
+            place,
+            u32::from(kind),
+            u32::from(refusal),
+            u32::from(value),
+        ],
     )
 }
 
@@ -108,7 +109,12 @@ pub fn put_t(out: &mut [u8], at: usize, block: u32, refusal: u8, first: u8, othe
         out,
         at,
         b"t",
-        &[block, refusal as u32, first as u32, other as u32],
+        &[
+            block,
+            u32::from(refusal),
+            u32::from(first),
+            u32::from(other),
+        ],
     )
 }
 
@@ -118,7 +124,7 @@ pub fn put_stop(out: &mut [u8], at: usize, block: u32, number: u8) -> usize
     ensures written { Written out.old at (text (stop block number)) out.new result }
     ensures upper_bound { result ≤ at + 40 }
 {
-    put_line(out, at, b"stop", &[block, number as u32])
+    put_line(out, at, b"stop", &[block, u32::from(number)])
 }
 
 // `end ENTRIES`

@@ -1,49 +1,48 @@
 -- From block to block the state stays sound: a table that passes opens a sound network, single steps keep it so, and no
 -- step comes before the table.
-use Prim.Native.Nat.{ℕ, zero, suc, ◌+◌, ◌*◌, ◌<◌, ◌≤◌}
+use Prim.Native.Nat.{ℕ, zero, suc, ◌*◌}
 use mathlib.Core.Path.{◌≡◌, refl, ap, sym, subst, ◌∙◌}
 use mathlib.Core.Bool.{Bool, true, false, not, ◌&&◌, ◌||◌}
 use mathlib.Core.List.{List, [], ◌∷◌, append-nil}
-use mathlib.Core.Option.{Option, none}
+use Rattle.std.specs.Prelude.{Option, None, Result, Ok, Err}
 use native.Mathlib.Omega.{arith}
 use borrow.Author.Tests.{eq-eqb, not-true}
-use lib.ListN.{length, get_or, drop, replicate, length-map, drop_of_length-le}
+use lib.ListN.{length, replicate, length-map}
 use lib.Seq.{slice, length-slice}
 use lib.Dec.{eqb, leb}
-use Rattle.base.specs.Grounds.{refusal}
+use Rattle.base.specs.declared.Refusal.{Refusal}
+use Rattle.base.specs.Grounds.{refusal, answer}
 use Rattle.base.proofs.Logic.{split, and_true, or_false, true_false, both}
 use Rattle.base.proofs.Grounds.{clear, unclear}
-use Rattle.base.proofs.Walks.{rest_on}
 use Rattle.chassis.specs.declared.Table.{Table}
-use Rattle.queue.specs.declared.Channel.{Channel}
-use Rattle.network.specs.Shapes.{no_channel}
 use Rattle.chassis.specs.Numbers.{bus}
-use Rattle.chassis.specs.Answers as table
 use Rattle.chassis.specs.Answers.{table_answer}
 use Rattle.chassis.specs.Tables.{table_grounds, table_passes, unused_are_zero}
 use Rattle.chassis.specs.Capacities.{most_records}
+use Rattle.queue.specs.declared.Channel.{Channel}
 use Rattle.network.specs.declared.State.{State}
+use Rattle.lent_states.specs.Held.{held}
+use Rattle.lent_states.proofs.Held.{is_held}
 use Rattle.network.specs.Nets.{pack, empty_net}
 use Rattle.network.specs.Opening.{opened, state_by}
 use Rattle.network.proofs.Good.{Arrays, empty_is_sound, empty_is_shaped}
-use Rattle.events.specs.Records.{records}
-use Rattle.events.specs.declared.Decoded.{Decoded}
+use Rattle.events.specs.Records.{records, Decoded}
 use Rattle.events.specs.Steps.{record_step}
 use Rattle.play_events.specs.Plays.{played_state, played_refusals, played_values}
 use Rattle.events.proofs.SoundStays.{Right, record_step_right}
 use Rattle.play_ticks.proofs.TickPlayed.{tick_right}
-use Rattle.blocks.specs.declared.BlockAnswer.{BlockAnswer}
-use Rattle.blocks.specs.declared.BlockAnswer.TheVariants.{Refused, Network, Steps, Tick}
+use Rattle.blocks.specs.declared.BlockKind.{BlockKind}
+use Rattle.blocks.specs.declared.BlockKind.TheVariants.{Network, Steps, Tick}
 use Rattle.blocks.specs.Blocks.{block_kind, block_place, record_count, record_bytes, bridge_records, table_of, stray_in_table, kind_place_count_are_right, content_grounds, block_grounds}
 use Rattle.blocks.specs.Answers.{accepted_as, block_answer}
 use Rattle.logs.specs.code.Runs.{run_lines, run_state, goes_on}
 use Rattle.logs.specs.Logs.{entries_left, block_played}
-use Rattle.blocks.proofs.Accepted.{Accepted, accepted_block, accepted_length, accepted_count, frame_is_right}
+use Rattle.blocks.proofs.Accepted.{accepted_block, accepted_length, accepted_count, frame_is_right}
 use Rattle.logs.proofs.Stepping.{block_stepped}
 use Rattle.logs.proofs.Ticking.{tick_fits}
 
 -- whatever else brought it, a table without refusal passes
-passes_so : (T : Table) (stray : Bool) → refusal (table_grounds T stray) ≡ none → table_passes T ≡ true
+passes_so : (T : Table) (stray : Bool) → refusal (table_grounds T stray) ≡ None → table_passes T ≡ true
 unfolding table_passes table_grounds
 passes_so T stray h =
     let c = clear (table_grounds T stray) h in
@@ -68,32 +67,32 @@ module _ (b : List ℕ) where
 
 module _ (place : ℕ) (b : List ℕ) where
   -- no event at place 0
-  pub events_later : (a : BlockAnswer) → Accepted a → (a ≡ Network → ⊥) → block_answer place b ≡ a → place ≡ 0 → ⊥
+  pub events_later : (k : BlockKind) → (k ≡ Network → ⊥) → block_answer place b ≡ Ok k → place ≡ 0 → ⊥
   unfolding kind_place_count_are_right
-  events_later a h w e z =
-      let q = accepted_block place b a h e in
+  events_later a w e z =
+      let q = accepted_block place b a e in
       let r = (and_true (eqb (block_place b) place) _ (frame_is_right place b q.0)).1 in
       let k = no_table b (λ n. w (sym q.1 ∙ n)) in
       let m = (and_true ((eqb (block_kind b) 2 || eqb (block_kind b) 3) && not (eqb place 0)) (leb (record_count b) most_records) (rw k at r)).0 in
       let n = (and_true (eqb (block_kind b) 2 || eqb (block_kind b) 3) (not (eqb place 0)) m).1 in
       both (eqb place 0) (eq-eqb place 0 z) (not-true (eqb place 0) n)
 
-  pub steps_later : block_answer place b ≡ Steps → place ≡ 0 → ⊥
-  steps_later = events_later Steps tt never
+  pub steps_later : block_answer place b ≡ Ok Steps → place ≡ 0 → ⊥
+  steps_later = events_later Steps never
     where
       never : Steps ≡ Network → ⊥
       never e = let z : ◌≡◌ {A = ℕ} 0 1 = cc in omega arith
 
-  pub tick_later : block_answer place b ≡ Tick → place ≡ 0 → ⊥
-  tick_later = events_later Tick tt never
+  pub tick_later : block_answer place b ≡ Ok Tick → place ≡ 0 → ⊥
+  tick_later = events_later Tick never
     where
       never : Tick ≡ Network → ⊥
       never e = let z : ◌≡◌ {A = ℕ} 0 1 = cc in omega arith
 
-  table_passed : block_answer place b ≡ Network → table_passes (table_of b) ≡ true
+  table_passed : block_answer place b ≡ Ok Network → table_passes (table_of b) ≡ true
   unfolding block_grounds content_grounds
   table_passed e =
-      let a = accepted_block place b Network tt e in
+      let a = accepted_block place b Network e in
       let k = kind_one b a.1 in
       let c = clear (block_grounds place b) a.0 in
       passes_so (table_of b) (stray_in_table b) (unclear (table_grounds (table_of b) (stray_in_table b)) (rw k at c.1.1.1))
@@ -121,34 +120,34 @@ table_arrays b h = record {
 }
 
 -- a block that is read on from leaves a sound state
-pub run_right : (place : ℕ) (s : State) (b : List ℕ) (a : BlockAnswer) → block_answer place b ≡ a → ((place ≡ 0 → ⊥) → Right s) → goes_on a ≡ true → Right (run_state place s b a)
-run_right place s b (Refused n) e w g = absurd (true_false (sym g))
-run_right place s b Network e w g =
+pub run_right : (place : ℕ) (s : State) (b : List ℕ) (a : Result BlockKind Refusal) → block_answer place b ≡ a → ((place ≡ 0 → ⊥) → Right s) → goes_on a ≡ true → Right (run_state place s b a)
+run_right place s b (Err n) e w g = absurd (true_false (sym g))
+run_right place s b (Ok Network) e w g =
     let ok = table_passed place b e in
     record {
-      shaped = empty_is_shaped (table_of b) (table_arrays b (accepted_length place b (accepted_block place b Network tt e).0)) ok;
+      shaped = empty_is_shaped (table_of b) (table_arrays b (accepted_length place b (accepted_block place b Network e).0)) ok;
       is_sound = empty_is_sound (table_of b) ok;
     }
-run_right place s b Steps e w g =
-    let h = (accepted_block place b Steps tt e).0 in
+run_right place s b (Ok Steps) e w g =
+    let h = (accepted_block place b Steps e).0 in
     let r = record_bytes b in
     let ok = w (steps_later place b e) in
     let q = (block_stepped place b (played_refusals s (records r)) (played_values s (records r)) [] [] s ok (accepted_length place b h) (accepted_count place b h)
     (sym (append-nil (played_refusals s (records r)))) (sym (append-nil (played_values s (records r))))).0 in
     subst Right (sym q) (played_right s ok (records r))
-run_right place s b Tick e w g =
-    let h = (accepted_block place b Tick tt e).0 in
+run_right place s b (Ok Tick) e w g =
+    let h = (accepted_block place b Tick e).0 in
     let q = tick_fits b (accepted_length place b h) (accepted_count place b h) in
     tick_right s (w (tick_later place b e)) (record_bytes b) (replicate (record_count b) 0) q.0 q.1 q.2
 
 -- ---- it is what the definition plays
 
-opens : (T : Table) (stray : Bool) → refusal (table_grounds T stray) ≡ none → (opened T stray).state ≡ pack (empty_net T)
+opens : (T : Table) (stray : Bool) → refusal (table_grounds T stray) ≡ None → (opened T stray).state ≡ pack (empty_net T)
 unfolding opened table_answer
-opens T stray h = ap (λ (o : Option ℕ). state_by T (table.answer_by o)) h
+opens T stray h = ap (λ (o : Option Refusal). state_by T (answer o tt)) h
 
-pub run_is_played : (place : ℕ) (s : State) (b : List ℕ) → refusal (block_grounds place b) ≡ none
-    → (run_lines place s b (accepted_as b) ≡ (block_played place s b).lines) × (run_state place s b (accepted_as b) ≡ (block_played place s b).state)
+pub run_is_played : (place : ℕ) (s : State) (b : List ℕ) → refusal (block_grounds place b) ≡ None
+    → (run_lines place s b (Ok (accepted_as b)) ≡ (block_played place s b).lines) × (run_state place s b (Ok (accepted_as b)) ≡ (block_played place s b).state)
 unfolding block_played block_grounds content_grounds
 run_is_played place s b h =
     split (eqb (block_kind b) 1)
@@ -158,12 +157,8 @@ run_is_played place s b h =
     (rw t, rw t (sym o)))
     (λ f. split (eqb (block_kind b) 2) (λ t. (rw (f, t), rw (f, t))) (λ g. (rw (f, g), rw (f, g))))
 
--- ---- the entries left, channel by channel
+-- ---- the entries left: what the code counts is what the definition counts
 
-pub left_turn : (l : List Channel) (i : ℕ) → i < length l → entries_left (drop i l) ≡ (get_or l i no_channel).count + entries_left (drop (i + 1) l)
+pub held_is_left : (cs : List Channel) → held cs ≡ entries_left cs
 unfolding entries_left
-left_turn l i h = rw (rest_on l i no_channel h)
-
-pub none_left : (l : List Channel) (i : ℕ) → length l ≤ i → entries_left (drop i l) ≡ 0
-unfolding entries_left
-none_left l i h = rw (drop_of_length-le l h)
+held_is_left cs = sym (is_held entries_left refl (λ c ds. refl) cs)

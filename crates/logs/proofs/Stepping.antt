@@ -10,8 +10,7 @@ use Rattle.base.specs.Lists.{parts}
 use Rattle.network.specs.declared.State.{State}
 use Rattle.base.proofs.Writing.{length_parts}
 use Rattle.chassis.specs.Capacities.{most_records}
-use Rattle.events.specs.declared.Decoded.{Decoded}
-use Rattle.events.specs.Records.{decoded, records}
+use Rattle.events.specs.Records.{decoded, records, Decoded}
 use Rattle.events.specs.Steps.{step, record_step, refusal_number, answer_value}
 use Rattle.play_events.specs.Plays.{played_state, played_refusals, played_values}
 use Rattle.events.proofs.SoundStays.{Right, record_step_right, step_is}

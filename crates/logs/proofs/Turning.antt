@@ -9,11 +9,10 @@ use Rattle.base.specs.Lists.{parts}
 use Rattle.chassis.specs.Capacities.{most_records}
 use Rattle.network.specs.declared.State.{State}
 use Rattle.events.specs.declared.Outcome.{Outcome}
-use Rattle.events.specs.declared.Read.{Read}
-use Rattle.events.specs.Records.{decoded}
-use Rattle.events.specs.Reads.{read_at}
+use Rattle.events.specs.Records.{decoded, Decoded}
+use Rattle.events.specs.Reads.{Read, read_at, decoded_of}
 use Rattle.events.specs.Steps.{record_step, refusal_number, answer_value}
-use Rattle.events.proofs.Reading.{read_stands, kind_is_first_byte}
+use Rattle.events.proofs.Reading.{read_says, read_stands, kind_is_first_byte}
 use Rattle.events.proofs.SoundStays.{Right, record_step_right, step_is}
 use Rattle.play_events.proofs.Playing.{record_step_table}
 use Rattle.blocks.specs.Blocks.{record_count, record_bytes, block_records}
@@ -84,11 +83,16 @@ module _ (block : ℕ) (s₀ : State) (b out₀ : List ℕ) (at : ℕ) where
         let at = read_stands block i (this i) in
         rw (isx, at.0, at.1, kind_is_first_byte block i (this i), isn, isv)
 
-    pub one_played : {end i : ℕ} {s : State} {out : List ℕ} → Played end i s out → i < many → (s' : State) → s' ≡ (stepped i s).state
-        → (x : Read) → x ≡ read_at block i (this i) → (n v : ℕ) → n ≡ refusal_number (stepped i s).answer → v ≡ answer_value (stepped i s).answer
-        → (q : ℕ) (z : List ℕ) → Written out end (text (read_line x n v)) z q × (q ≤ end + 40) → Played q (i + 1) s' z
+    -- x is read, and its step d is done with what n and v say
+    pub one_played : {end i : ℕ} {s : State} {out : List ℕ} → Played end i s out → i < many → {x : Read} → x ≡ read_at block i (this i) → {d : Decoded} → d ≡ decoded_of x
+        → {s' : State} → s' ≡ (record_step s d).state → {n v : ℕ} → n ≡ refusal_number (record_step s d).answer → v ≡ answer_value (record_step s d).answer
+        → {q : ℕ} {z : List ℕ} → Written out end (text (read_line x n v)) z q × (q ≤ end + 40) → Played q (i + 1) s' z
     unfolding texts
-    one_played {end} {i} {s} {out} p h s' iss x isx n v isn isv q z w =
+    one_played {end} {i} {s} {out} p h {x} isx {d} isd {s'} iss' {n} {v} isn' isv' {q} {z} w =
+        let dec : d ≡ decoded (this i) = isd ∙ ap decoded_of isx ∙ read_says block i (this i) in
+        let iss : s' ≡ (stepped i s).state = rw dec at iss' in
+        let isn : n ≡ refusal_number (stepped i s).answer = rw dec at isn' in
+        let isv : v ≡ answer_value (stepped i s).answer = rw dec at isv' in
         let t = turn i s p.right h in
         let far = p.short in
         let near = w.1 in

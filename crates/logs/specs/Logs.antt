@@ -1,16 +1,13 @@
 -- A whole input to its log: blocks in turn, up to the first refused one.
-use Rattle.std.specs.Prelude.{ℕ, zero, suc, ◌+◌, cond, List, [], ◌∷◌, ◌++◌, length, take, drop, replicate, eqb}
-use Rattle.std.proofs.Math.Option.{none, some}
-use Rattle.base.specs.Grounds.{refusal}
+use Rattle.std.specs.Prelude.{ℕ, zero, suc, ◌+◌, cond, List, [], ◌∷◌, ◌++◌, length, take, drop, replicate, eqb, None, Some, Ok, Err}
+use Rattle.base.specs.Grounds.{refusal, number_of}
 use Rattle.chassis.specs.declared.Table.{Table}
 use Rattle.queue.specs.declared.Channel.{Channel}
 use Rattle.network.specs.declared.State.{State}
 use Rattle.network.specs.Opening.{opened, zero_state}
 use Rattle.events.specs.declared.Outcome.{Outcome}
 use Rattle.events.specs.Steps.{step, refusal_number, answer_value}
-use Rattle.ticks.specs.declared.TickAnswer.{TickAnswer}
-use Rattle.ticks.specs.declared.TickAnswer.TheVariants.{Accepted, Refused, Conflict}
-use Rattle.ticks.specs.Ticks.{Ticked, tick, tick_number, tick_record, tick_other}
+use Rattle.ticks.specs.Ticks.{Ticked, tick, tick_number, tick_record, tick_other, TickAnswer}
 use Rattle.blocks.specs.Blocks.{byte, block_kind, record_count, block_grounds, table_of, stray_in_table, record_bytes, block_records}
 use Rattle.lines.specs.Lines.{Line, net, e, t, stop, end, texts}
 
@@ -44,9 +41,8 @@ value_lines block i (b ∷ bs) [] = []
 value_lines block i (b ∷ bs) (v ∷ vs) = e block i (byte b 0) 0 v ∷ value_lines block (suc i) bs vs
 
 abbrev pub value_lines_if : TickAnswer → List Line → List Line
-value_lines_if Accepted ls = ls
-value_lines_if (Refused n i) ls = []
-value_lines_if (Conflict i j) ls = []
+value_lines_if (Ok u) ls = ls
+value_lines_if (Err a) ls = []
 
 unfoldable pub tick_lines : ℕ → List (List ℕ) → Ticked → List Line
 tick_lines block bs r =
@@ -74,8 +70,8 @@ unfoldable pub blocks_played : ℕ → State → List (List ℕ) → Ran
 blocks_played place s [] = record { lines = end (entries_left s.channels) ∷ []; state = s }
 blocks_played place s (b ∷ bs) =
     elim (refusal (block_grounds place b)) [
-      | some n ↦ record { lines = stop place n ∷ []; state = s }
-      | none ↦ then_more (block_played place s b).lines (blocks_played (suc place) (block_played place s b).state bs)
+      | Some n ↦ record { lines = stop place (number_of n) ∷ []; state = s }
+      | None ↦ then_more (block_played place s b).lines (blocks_played (suc place) (block_played place s b).state bs)
     ]
 
 -- an input in blocks of 512 bytes, the last one perhaps shorter; k bounds their number

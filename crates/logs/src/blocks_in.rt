@@ -1,7 +1,6 @@
 // A block of single steps played on a lent state: each record is read into its step record, judged, settled where the state lies, and printed.
 ghost use Rattle.std.specs.Prelude.{◌≡◌, true, ◌+◌, ◌*◌, ◌<◌, ◌≤◌, length, take, drop};
 ghost use Rattle.chassis.specs.Capacities.{most_records};
-ghost use Rattle.find_routes.specs.Hops.{hops_of};
 ghost use Rattle.network.specs.Soundness.{sound};
 ghost use Rattle.events.specs.Reads.{read_at};
 ghost use Rattle.blocks.specs.Blocks.{record_count, record_bytes, block_records};
@@ -11,26 +10,22 @@ ghost use Rattle.logs.specs.Logs.{steps};
 ghost use Rattle.logs.specs.code.Plays.{read_line};
 
 use blocks::checks::record_bytes;
-use events::Read;
+use events::answers::{answer_value, refusal_number};
 use events::reads::{block_of, decode_at, decoded_of, kind_byte, place_of};
-use judge_events::Plan;
-use lent_plays::judging::plan_in;
-use lent_plays::questions::{at_of, master_of, notice_by, sought_for};
-use lent_plays::settling::settle_in;
+use events::{Step, Unfit};
+use find_routes::ways::Ways;
 use lent_plays::shapes::shape_in;
-use lent_states::channels::look_at;
-use lent_states::leaves::table_in;
+use lent_plays::stepping::play_in;
 use lines::lines::put_e;
 use network::State;
-use read_events::frames::record_frame;
 
 // The `e` line of a record, by what was read of it.
-pub fn put_read(out: &mut [u8], at: usize, x: Read, refusal: u8, value: u16) -> usize
+pub fn put_read(out: &mut [u8], at: usize, x: Result<Step, Unfit>, refusal: u8, value: u16) -> usize
     requires { at + 40 ≤ length out.old }
     ensures { Written out.old at (text (read_line x refusal value)) out.new result × (result ≤ at + 40) }
 {
-    let block = block_of(x) as u32;
-    let place = place_of(x) as u32;
+    let block = u32::from(block_of(x));
+    let place = u32::from(place_of(x));
     put_e(out, at, block, place, kind_byte(x), refusal, value)
 }
 
@@ -42,7 +37,7 @@ fn count_of(b: &[u8]) -> usize
 }
 
 // Record i of a block.
-fn read_in(b: &[u8], place: u32, i: usize) -> Read
+fn read_in(b: &[u8], place: u32, i: usize) -> Result<Step, Unfit>
     requires { (length b.now ≡ 512) × (record_count b.now ≤ most_records) × (i < record_count b.now) × (place < 65536) }
     ensures { result ≡ read_at place i (take 8 (drop (8 * i) (record_bytes b.now))) }
 {
@@ -50,50 +45,24 @@ fn read_in(b: &[u8], place: u32, i: usize) -> Read
     decode_at(r, place as u16, i)
 }
 
-fn refusal_of(p: Plan) -> u8
-    ensures { result ≡ p.refusal }
-{
-    p.refusal
-}
-
-fn value_of(p: Plan) -> u16
-    ensures { result ≡ p.value }
-{
-    p.value
-}
-
 // The records of a block, one by one, and their `e` lines from `at` on. An accepted block states its own place in two bytes.
 pub fn play_steps_in(
     s: &mut State,
-    hops: &[u8; 256],
+    ways: &Ways,
     b: &[u8],
     out: &mut [u8],
     place: u32,
     at: usize,
 ) -> usize
-    requires { (sound s.old ≡ true) × (hops.now ≡ hops_of s.old.table) × (length b.now ≡ 512) × (record_count b.now ≤ most_records) × (at + 2520 ≤ length out.old) × (place < 65536) }
+    requires { (sound s.old ≡ true) × (ways.now.table ≡ s.old.table) × (length b.now ≡ 512) × (record_count b.now ≤ most_records) × (at + 2520 ≤ length out.old) × (place < 65536) }
     ensures { (s.new ≡ (steps place 0 s.old (block_records b.now)).state) × Written out.old at (texts (steps place 0 s.old (block_records b.now)).lines) out.new result × (result ≤ at + 2560) }
 {
     shape_in(s);
-    let t = table_in(s);
-    let n = count_of(b);
     let mut end = at;
-    let mut i: usize = 0;
-    while i < n {
+    for i in 0..count_of(b) {
         let x = read_in(b, place, i);
-        let d = decoded_of(x);
-        let f = record_frame(t, d);
-        let here = at_of(f);
-        let q = sought_for(f);
-        let l = look_at(s, here, q);
-        let c = notice_by(hops, t, f, l);
-        let p = plan_in(s, t, f, c);
-        let m = master_of(f);
-        settle_in(s, m, p);
-        let refusal = refusal_of(p);
-        let value = value_of(p);
-        end = put_read(out, end, x, refusal, value);
-        i += 1;
+        let answer = play_in(s, ways, decoded_of(x));
+        end = put_read(out, end, x, refusal_number(answer), answer_value(answer));
     }
     end
 }

@@ -11,14 +11,16 @@ ghost use Rattle.logs.specs.code.Plays.{step_texts};
 ghost use Rattle.logs.specs.code.Runs.{run_lines, run_state, goes_on};
 ghost use Rattle.lines.specs.code.Writing.{Written};
 
-use blocks::BlockAnswer;
+use base::Refusal;
+use blocks::BlockKind;
 use blocks::checks::{block_answer, record_bytes, table_of};
-use chassis::{MOST_CHANNELS, MOST_RECORDS};
+use chassis::MOST_RECORDS;
+use lent_plays::in_turn::play;
+use lent_states::left::entries_left_in;
+use lent_ticks::at_once::play_tick;
 use lines::lines::{put_e, put_net, put_stop, put_t};
 use network::{State, empty};
-use play_events::in_turn::play;
-use play_ticks::at_once::{is_accepted, play_tick};
-use ticks::TickAnswer;
+use ticks::TickRefusal;
 
 // One `e` line for each of the n records of `r`.
 fn put_steps(
@@ -35,11 +37,9 @@ fn put_steps(
     ensures upper_bound { result ≤ at + 40 * n }
 {
     let mut end = at;
-    let mut i: usize = 0;
-    while i < n {
+    for i in 0..n {
         let from = 8 * i;
         end = put_e(out, end, block, i as u32, r[from], refusals[i], values[i]);
-        i += 1;
     }
     end
 }
@@ -68,39 +68,32 @@ pub fn play_steps(s: State, place: u32, b: &[u8], out: &mut [u8], at: usize) -> 
 }
 
 // Document 01's number, record and other record of a tick's answer.
-pub fn tick_number(a: TickAnswer) -> u8
+pub fn tick_number(a: Result<(), TickRefusal>) -> u8
     ensures { result ≡ tick_number a }
 {
     match a {
-        TickAnswer::Accepted => 0,
-        TickAnswer::Refused { number, record: _ } => number,
-        TickAnswer::Conflict {
-            record: _,
-            other: _,
-        } => 15,
+        Ok(()) => 0,
+        Err(TickRefusal::Refused { ground, .. }) => u8::from(ground),
+        Err(TickRefusal::Conflict { .. }) => u8::from(Refusal::InConflict),
     }
 }
 
-pub fn tick_record(a: TickAnswer) -> u8
+pub fn tick_record(a: Result<(), TickRefusal>) -> u8
     ensures { result ≡ tick_record a }
 {
     match a {
-        TickAnswer::Accepted => 0,
-        TickAnswer::Refused { number: _, record } => record,
-        TickAnswer::Conflict { record, other: _ } => record,
+        Ok(()) => 0,
+        Err(TickRefusal::Refused { record, .. }) => record,
+        Err(TickRefusal::Conflict { record, .. }) => record,
     }
 }
 
-pub fn tick_other(a: TickAnswer) -> u8
+pub fn tick_other(a: Result<(), TickRefusal>) -> u8
     ensures { result ≡ tick_other a }
 {
     match a {
-        TickAnswer::Accepted => 0,
-        TickAnswer::Refused {
-            number: _,
-            record: _,
-        } => 0,
-        TickAnswer::Conflict { record: _, other } => other,
+        Err(TickRefusal::Conflict { other, .. }) => other,
+        _ => 0,
     }
 }
 
@@ -117,8 +110,7 @@ pub fn play_cycle(s: State, place: u32, b: &[u8], out: &mut [u8], at: usize) -> 
     let mut values: [u16; MOST_RECORDS] = [0; MOST_RECORDS];
     let q = play_tick(s, r, &mut values);
     let a = q.answer;
-    let state = q.state;
-    let end = put_t(
+    let mut end = put_t(
         out,
         at,
         place,
@@ -126,14 +118,17 @@ pub fn play_cycle(s: State, place: u32, b: &[u8], out: &mut [u8], at: usize) -> 
         tick_record(a),
         tick_other(a),
     );
-    if !is_accepted(a) {
-        return BlockRan { state, end };
+    if a.is_ok() {
+        end = put_steps(out, end, place, r, &none, &values, n);
     }
-    let end = put_steps(out, end, place, r, &none, &values, n);
-    BlockRan { state, end }
+    BlockRan {
+        state: q.state,
+        end,
+    }
 }
 
-// One block of an input: read on, or not; the state behind it; the end of what it printed.
+// One block of an input: read on, or not; the state behind it; the end of what it printed. No Option: state and end are there
+// whether or not the input goes on.
 #[derive(Clone, Copy)]
 pub struct BlockRun {
     pub going: bool,
@@ -141,6 +136,7 @@ pub struct BlockRun {
     pub end: usize,
 }
 
+#[tactic(auto, unfolding(lines::specs::Lines::texts))]
 pub fn run_block(s: State, place: u32, b: &[u8], out: &mut [u8]) -> BlockRun
     requires { (2560 ≤ length out.old) × ((place ≡ 0 → ⊥) → sound s ≡ true) }
     ensures going_value { result.going ≡ goes_on (block_answer place b.now) }
@@ -148,59 +144,40 @@ pub fn run_block(s: State, place: u32, b: &[u8], out: &mut [u8]) -> BlockRun
     ensures written { Written out.old 0 (texts (run_lines place s b.now (block_answer place b.now))) out.new result.end }
     ensures end_bound { result.end ≤ 2560 }
 {
-    let answer = block_answer(place, b);
-    match answer {
-        BlockAnswer::Refused(n) => {
-            let end = put_stop(out, 0, place, n);
-            BlockRun {
+    let (state, end) = match block_answer(place, b) {
+        Err(ground) => {
+            let end = put_stop(out, 0, place, u8::from(ground));
+            return BlockRun {
                 going: false,
                 state: s,
                 end,
-            }
+            };
         }
-        BlockAnswer::Network => {
+        Ok(BlockKind::Network) => {
             let t = table_of(b);
-            let state = empty(t);
-            let end = put_net(out, 0, t.buses, t.bridges, t.agents);
-            BlockRun {
-                going: true,
-                state,
-                end,
-            }
+            (empty(t), put_net(out, 0, t.buses, t.bridges, t.agents))
         }
-        BlockAnswer::Steps => {
+        Ok(BlockKind::Steps) => {
             let r = play_steps(s, place, b, out, 0);
-            let state = r.state;
-            BlockRun {
-                going: true,
-                state,
-                end: r.end,
-            }
+            (r.state, r.end)
         }
-        BlockAnswer::Tick => {
+        Ok(BlockKind::Tick) => {
             let r = play_cycle(s, place, b, out, 0);
-            let state = r.state;
-            BlockRun {
-                going: true,
-                state,
-                end: r.end,
-            }
+            (r.state, r.end)
         }
+    };
+    BlockRun {
+        going: true,
+        state,
+        end,
     }
 }
 
 // The entries left in all channels.
+#[tactic(auto, using(crate::proofs::Running::held_is_left))]
 pub fn entries_left(s: State) -> u32
     requires { sound s ≡ true }
     ensures { result ≡ entries_left s.channels }
 {
-    let mut sum: u32 = 0;
-    let mut i: usize = 0;
-    while i < MOST_CHANNELS {
-        let c = s.channels[i];
-        let n = c.count as u32;
-        sum += n;
-        i += 1;
-    }
-    sum
+    entries_left_in(&s)
 }

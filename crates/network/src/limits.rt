@@ -12,8 +12,7 @@ fn limit(t: Table, kind: u8) -> usize
     requires { (P ≤ kind) × (kind ≤ C) }
     ensures { result ≡ limit t kind }
 {
-    let i = kind as usize - 1;
-    t.limits[i] as usize
+    t.limits[kind as usize - 1] as usize
 }
 
 // So many of the kind are its limit, or more.
@@ -25,17 +24,17 @@ pub fn at_limit(t: Table, kind: u8, filled: usize) -> bool
 }
 
 // The kind is at its limit, so that one more has no room.
-pub fn full_in(t: Table, kind: u8, c: Channel) -> bool
+pub fn full_in(t: Table, kind: u8, c: &Channel) -> bool
     requires { (P ≤ kind) × (kind ≤ C) }
-    ensures { result ≡ is_full (room_of t kind) (live c) }
+    ensures { result ≡ is_full (room_of t kind) (live c.now) }
 {
     limit(t, kind) <= c.filling(kind)
 }
 
 // "No kind exceeds its limit there."
-pub fn kept_in(t: Table, kind: u8, c: Channel) -> bool
+pub fn kept_in(t: Table, kind: u8, c: &Channel) -> bool
     requires { (P ≤ kind) × (kind ≤ C) }
-    ensures { result ≡ is_kept (room_of t kind) (live c) }
+    ensures { result ≡ is_kept (room_of t kind) (live c.now) }
 {
     c.filling(kind) <= limit(t, kind)
 }

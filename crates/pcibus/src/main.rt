@@ -3,18 +3,15 @@
 
 #![tactic(auto)]
 
-use play_inputs::{Log, Played, play_input};
+use play_inputs::{Log, play_input};
 use std::io;
 use std::io::{Empty, Stdout};
 
 fn main(rt: HostRuntime) -> io::Result<()> {
     let mut log: Log<Stdout, Empty> = Log::Written(rt.stdout());
-    let played = play_input(&mut rt.stdin(), &mut log);
-    match played {
-        Played::ReadFailed => eprintln!(rt; "pcibus: the input cannot be read"),
-        Played::WriteFailed => eprintln!(rt; "pcibus: the log cannot be written"),
-        Played::Done => Ok(()),
-        Played::Differs => Ok(()),
-        Played::Cut => Ok(()),
+    match play_input(&mut rt.stdin(), &mut log) {
+        Ok(()) => Ok(()),
+        // The input cannot be read or the log not written: no other error comes of a log that is written.
+        Err(e) => eprintln!(rt; "pcibus: {e}"),
     }
 }

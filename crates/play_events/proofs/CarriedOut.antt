@@ -2,7 +2,7 @@
 -- places, since changes that come before the last only take out or mark.
 use Prim.Native.Nat.{ℕ, zero, suc, ◌+◌, ◌≤◌}
 use mathlib.Core.Path.{◌≡◌, refl, ap, sym, subst, ◌∙◌}
-use mathlib.Core.Bool.{Bool, true, false, cond, ◌&&◌}
+use mathlib.Core.Bool.{Bool, true, false, cond}
 use mathlib.Core.List.{List, [], ◌∷◌, ◌++◌}
 use native.Mathlib.Omega.{arith}
 use native.Mathlib.Nat.{le_trans}
@@ -11,7 +11,7 @@ use lib.Dec.{ltb}
 use lib.ListN.{length, get_or, set, get_or-eq_default}
 use Rattle.base.specs.Lists.{modify}
 use Rattle.base.specs.Grounds.{Ground}
-use Rattle.base.proofs.Logic.{split, and_true}
+use Rattle.base.proofs.Logic.{split}
 use Rattle.base.proofs.Grounds.{Clear, clear}
 use Rattle.base.proofs.Cells.{modify_every, modify_here}
 use Rattle.chassis.specs.declared.Agent.{Agent}
@@ -19,7 +19,7 @@ use Rattle.chassis.specs.declared.Chan.{Chan}
 use Rattle.chassis.specs.declared.Table.{Table}
 use Rattle.chassis.specs.declared.NextPlace.{NextPlace}
 use Rattle.chassis.specs.declared.NextPlace.TheVariants.{Target, Through}
-use Rattle.chassis.specs.Channels.{has_agent, has_chan, is_master, master_channel, opposite}
+use Rattle.chassis.specs.Channels.{is_master, master_channel, opposite}
 use Rattle.chassis.specs.Numbers.{chan}
 use Rattle.queue.specs.declared.Transaction.{Transaction}
 use Rattle.queue.specs.declared.Entry.{Entry}
@@ -40,15 +40,12 @@ use Rattle.network.proofs.Good.{Good}
 use Rattle.network.proofs.Rules.{within_its_places}
 use Rattle.events.specs.declared.Event.{Event}
 use Rattle.events.specs.declared.Event.TheVariants.{BeginPosted, BeginRead, BeginWrite, Commit, Post, Latch, Complete, DropRequest, DropCompletion}
-use Rattle.events.specs.declared.Decoded.TheVariants.{Known}
-use Rattle.read_events.specs.declared.Frame.{Frame}
 use Rattle.judge_events.specs.declared.Plan.{Plan}
 use Rattle.events.specs.Tests.{entry_at, ahead}
 use Rattle.events.specs.Effects.{leaves, is_marked, enters, answer_taken, answer_given, begins, new_entry, effects, after, value}
-use Rattle.events.specs.Grounds.{begin_grounds, named_grounds, grounds, Accepted}
+use Rattle.events.specs.Grounds.{named_grounds, grounds, Accepted}
 use Rattle.events.specs.Accounts.{account}
-use Rattle.read_events.specs.Frames.{begin_frame, named_frame, frame}
-use Rattle.judge_events.specs.Plans.{at_channel, no_act, does, refused_plan, begin_plan, entering, answer_leaving, answer_entering, accepted_plan, carried_out, acts_of}
+use Rattle.judge_events.specs.Plans.{at_channel, no_act, does, begin_plan, entering, answer_leaving, answer_entering, accepted_plan, carried_out, acts_of}
 use Rattle.events.proofs.Kept.{rules_stay}
 
 -- ---- the entry that a change names is found under its own name
@@ -329,39 +326,6 @@ module _ (s u : Net) (small : Small u) where
   done (DropRequest N t) ok end = done_drop_request N t ok end
   done (DropCompletion N t) ok end = done_drop_completion N t ok end
 
-module _ (s : Net) where
-  -- ---- the frame of an accepted event is its own
-
-  abbrev own_frame : Event → Frame
-  own_frame e = record { refusal = 0; event = e; at = (account e).channel; master = (account e).name.master }
-
-  framed_begin : (e : Event) (k : ℕ) (m a : Agent) → Clear (begin_grounds s k m a) → begin_frame s.table e m a ≡ record { refusal = 0; event = e; at = master_channel m; master = m }
-  unfolding begin_grounds
-  framed_begin e k m a c =
-      let r = and_true (has_agent s.table m) (has_agent s.table a) (not-false (has_agent s.table m && has_agent s.table a) c.0) in
-      rw (r.0, r.1, c.1.0)
-
-  framed_named : (e : Event) (k : ℕ) (N : Chan) (t : Transaction) (more : List Ground) → Clear (named_grounds s k N t more) → named_frame s.table e N t ≡ record { refusal = 0; event = e; at = N; master = t.master }
-  unfolding named_grounds
-  framed_named e k N t more c =
-      let r = and_true (has_chan s.table N) (has_agent s.table t.master) (not-false (has_chan s.table N && has_agent s.table t.master) c.0) in
-      rw (r.0, r.1)
-
-  pub framed_own : (e : Event) → Accepted s e → frame s.table (Known e) ≡ own_frame e
-  unfolding grounds
-  framed_own (BeginPosted m a) ok = framed_begin (BeginPosted m a) P m a (clear (grounds s (BeginPosted m a)) ok)
-  framed_own (BeginRead m a) ok = framed_begin (BeginRead m a) R m a (clear (grounds s (BeginRead m a)) ok)
-  framed_own (BeginWrite m a) ok = framed_begin (BeginWrite m a) R m a (clear (grounds s (BeginWrite m a)) ok)
-  framed_own (Commit N t) ok = framed_named (Commit N t) R N t _ (clear (grounds s (Commit N t)) ok)
-  framed_own (Post N t) ok = framed_named (Post N t) P N t _ (clear (grounds s (Post N t)) ok)
-  framed_own (Latch N t) ok = framed_named (Latch N t) R N t _ (clear (grounds s (Latch N t)) ok)
-  framed_own (Complete N t) ok = framed_named (Complete N t) R N t _ (clear (grounds s (Complete N t)) ok)
-  framed_own (DropRequest N t) ok = framed_named (DropRequest N t) R N t _ (clear (grounds s (DropRequest N t)) ok)
-  framed_own (DropCompletion N t) ok = framed_named (DropCompletion N t) C N t _ (clear (grounds s (DropCompletion N t)) ok)
-
-  pub framed_master : (e : Event) → Accepted s e → (frame s.table (Known e)).master ≡ (account e).name.master
-  framed_master e ok = ap (λ (f : Frame). f.master) (framed_own e ok)
-
 -- ---- on a state that keeps the rules
 
 module _ (s : Net) (g : Good s) where
@@ -371,32 +335,17 @@ module _ (s : Net) (g : Good s) where
   pub small_after : (e : Event) → Accepted s e → Small (after s e)
   small_after e ok N = within_its_places (after s e) (rules_stay s g e ok).rules N
 
-  -- ---- a refused plan changes nothing
-
-  idle : acted_on (pack s) no_act ≡ pack s
-  unfolding act
-  idle = acted_packed s no_act (small (chan 0)) (fits_after s no_act (subst Small (sym (nothing_done s)) small)) ∙ ap pack (nothing_done s)
-
-  pub refused_idle : (k : ℕ) (m : Agent) → carried_out (pack s) m (refused_plan k) ≡ pack s
-  unfolding carried_out pack
-  refused_idle k m =
-      ap (λ (x : State). counted (acted_on (acted_on x no_act) no_act) m (get_or s.begins m.0 0)) idle
-      ∙ ap (λ (x : State). counted (acted_on x no_act) m (get_or s.begins m.0 0)) idle
-      ∙ ap (λ (x : State). counted x m (get_or s.begins m.0 0)) idle
-      ∙ not_raised s m
-
 -- judged in s and carried out in u
 pub done_elsewhere : (s u : Net) → Small u → (e : Event) → Accepted s e → Small (edits (effects s e) u)
-    → carried_out (pack u) (frame s.table (Known e)).master (accepted_plan s e) ≡ pack (edits (effects s e) u)
+    → carried_out (pack u) (account e).name.master (accepted_plan s e) ≡ pack (edits (effects s e) u)
 unfolding carried_out pack
 done_elsewhere s u small e ok end =
     let p = accepted_plan s e in
     let m = (account e).name.master in
     let r = done s u small e ok end in
-    ap (λ (x : Agent). carried_out (pack u) x p) (framed_master s e ok)
-    ∙ ap (λ (x : State). counted x m (cond p.raises (get_or u.begins m.0 0 + 1) (get_or u.begins m.0 0))) (acts_packed u p r.fitting)
+    ap (λ (x : State). counted x m (cond p.raises (get_or u.begins m.0 0 + 1) (get_or u.begins m.0 0))) (acts_packed u p r.fitting)
     ∙ r.counts
 
-pub accepted_done : (s : Net) → Good s → (e : Event) → Accepted s e → carried_out (pack s) (frame s.table (Known e)).master (accepted_plan s e) ≡ pack (after s e)
+pub accepted_done : (s : Net) → Good s → (e : Event) → Accepted s e → carried_out (pack s) (account e).name.master (accepted_plan s e) ≡ pack (after s e)
 unfolding after
 accepted_done s g e ok = done_elsewhere s s (small s g) e ok (small_after s g e ok)

@@ -6,4 +6,3 @@ pub mod There
 pub mod Carried
 pub mod Reading
 pub mod Playing
-pub mod Single

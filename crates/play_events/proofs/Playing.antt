@@ -2,20 +2,19 @@
 use Prim.Native.Nat.{ℕ, ◌+◌, ◌*◌, ◌/◌, ◌<◌, ◌≤◌}
 use mathlib.Core.Path.{◌≡◌, refl, ap, sym, ◌∙◌}
 use mathlib.Core.List.{List, [], ◌∷◌, ◌++◌, append-nil}
-use mathlib.Core.Option.{Option, none, some}
+use Rattle.std.specs.Prelude.{Option, None, Some}
 use native.Mathlib.Omega.{arith}
 use lib.ListN.{length, get_or, take, drop, set, length-set, length-map, take-append-drop, drop_of_length-le, get_or-map}
 use lib.Seq.{drop-set-lt}
 use Rattle.base.specs.Lists.{parts}
+use Rattle.base.specs.declared.Refusal.{Refusal}
 use Rattle.base.specs.Grounds.{refusal}
 use Rattle.base.proofs.Walks.{rest_on}
 use Rattle.base.proofs.Writing.{filled_on, length_parts, part_at}
 use Rattle.network.specs.declared.State.{State}
 use Rattle.network.specs.Nets.{view, pack}
-use Rattle.events.specs.declared.Decoded.{Decoded}
-use Rattle.events.specs.declared.Decoded.TheVariants.{Known, Unfit}
 use Rattle.events.specs.declared.Outcome.{Outcome}
-use Rattle.events.specs.Records.{decoded, records}
+use Rattle.events.specs.Records.{decoded, records, Decoded}
 use Rattle.events.specs.Grounds.{grounds}
 use Rattle.events.specs.Steps.{unless, inner_step, record_step, refusal_number, answer_value}
 use Rattle.play_events.specs.Plays.{played_state, played_refusals, played_values}
@@ -31,14 +30,14 @@ unfolding records
 the_record r i h = get_or-map decoded (parts (length r / 8) 8 r) i [] ∙ ap decoded (part_at (length r / 8) 8 r i h)
 
 -- no record changes the table
-unless_table : (s : State) (o : Option ℕ) (c : Outcome) → c.state.table ≡ s.table → (unless o s c).state.table ≡ s.table
-unless_table s none c h = h
-unless_table s (some n) c h = refl
+unless_table : (s : State) (o : Option Refusal) (c : Outcome) → c.state.table ≡ s.table → (unless o s c).state.table ≡ s.table
+unless_table s None c h = h
+unless_table s (Some n) c h = refl
 
 pub record_step_table : (s : State) (d : Decoded) → (record_step s d).state.table ≡ s.table
 unfolding inner_step pack view
-record_step_table s Unfit = refl
-record_step_table s (Known e) = unless_table s (refusal (grounds (view s) e)) _ (table_stays (view s) e)
+record_step_table s None = refl
+record_step_table s (Some e) = unless_table s (refusal (grounds (view s) e)) _ (table_stays (view s) e)
 
 -- a list written up to its n-th place
 joined : (n i : ℕ) (l l₀ : List ℕ) {done : List ℕ} → i ≡ n → take i l ≡ done → drop n l ≡ drop n l₀ → l ≡ done ++ drop n l₀

@@ -1,13 +1,15 @@
 -- Every channel that a record's plan points to is a channel of the table.
+use Rattle.std.specs.Prelude.{None, Result, Ok}
 use Prim.Native.Nat.{ℕ}
-use mathlib.Core.Path.{◌≡◌}
+use mathlib.Core.Path.{◌≡◌, subst}
 use mathlib.Core.Bool.{Bool, true, false, ◌&&◌}
 use mathlib.Core.List.{List}
 use native.Mathlib.Omega.{arith}
 use borrow.Author.Tests.{ltb-true, lt-ltb, not-false}
 use Rattle.base.specs.Grounds.{Ground, refusal}
-use Rattle.base.proofs.Logic.{split, there, and_true}
-use Rattle.base.proofs.Grounds.{Clear, clear}
+use Rattle.base.specs.declared.Refusal.{Refusal}
+use Rattle.base.proofs.Logic.{split, and_true}
+use Rattle.base.proofs.Grounds.{Clear, clear, answered_ok, ok_same}
 use Rattle.chassis.specs.declared.Agent.{Agent}
 use Rattle.chassis.specs.declared.Chan.{Chan}
 use Rattle.chassis.specs.declared.Table.{Table}
@@ -24,13 +26,12 @@ use Rattle.queue.specs.Entries.{P, R, C, as_kind}
 use Rattle.network.specs.Nets.{Net}
 use Rattle.events.specs.declared.Event.{Event}
 use Rattle.events.specs.declared.Event.TheVariants.{BeginPosted, BeginRead, BeginWrite, Commit, Post, Latch, Complete, DropRequest, DropCompletion}
-use Rattle.events.specs.declared.Decoded.{Decoded}
-use Rattle.events.specs.declared.Decoded.TheVariants.{Known, Unfit}
 use Rattle.judge_events.specs.declared.Plan.{Plan}
 use Rattle.events.specs.Tests.{ahead, entry_at}
 use Rattle.events.specs.Grounds.{begin_grounds, named_grounds, grounds}
 use Rattle.events.specs.Effects.{value}
-use Rattle.judge_events.specs.Plans.{entering, answer_leaving, answer_entering, refused_plan, begin_plan, accepted_plan, plan, record_plan, acts_of}
+use Rattle.events.specs.Accounts.{account}
+use Rattle.judge_events.specs.Plans.{entering, answer_leaving, answer_entering, begin_plan, accepted_plan, plan, acts_of}
 use Rattle.read_events.proofs.Onward.{Onward, next_onward}
 
 -- ---- what a plan points to
@@ -46,9 +47,6 @@ module _ (s : Net) (ok : table_passes s.table ≡ true) where
 
   zero_there : has_chan T (record { 0 = 0 }) ≡ true
   zero_there = let a = (counts T (passed T ok).counts).agents.0 in lt-ltb 0 (chan_count T) (omega arith)
-
-  refused_there : (k : ℕ) → Reached T (refused_plan k)
-  refused_there k = record { first = zero_there; second = zero_there; third = zero_there }
 
   begin_there : (k : ℕ) (write : Bool) (m a : Agent) → Clear (begin_grounds s k m a) → Reached T (begin_plan s k write m a)
   unfolding begin_grounds
@@ -90,10 +88,33 @@ module _ (s : Net) (ok : table_passes s.table ≡ true) where
   accepted_there (DropRequest N t) c = record { first = named_there R N t _ c; second = zero_there; third = zero_there }
   accepted_there (DropCompletion N t) c = record { first = named_there C N t _ c; second = zero_there; third = zero_there }
 
-  pub plan_there : (d : Decoded) → Reached T (record_plan s d)
-  unfolding record_plan plan
-  plan_there Unfit = refused_there 1
-  plan_there (Known e) =
-      there (refusal (grounds s e))
-      (λ h. rw h (accepted_there e (clear (grounds s e) h)))
-      (λ k h. rw h (refused_there k))
+  master_begins : (k : ℕ) (m a : Agent) → Clear (begin_grounds s k m a) → has_agent T m ≡ true
+  unfolding begin_grounds
+  master_begins k m a c = (and_true (has_agent T m) (has_agent T a) (not-false (has_agent T m && has_agent T a) c.0)).0
+
+  master_named : (k : ℕ) (N : Chan) (t : Transaction) (more : List Ground) → Clear (named_grounds s k N t more) → has_agent T t.master ≡ true
+  unfolding named_grounds
+  master_named k N t more c = (and_true (has_chan T N) (has_agent T t.master) (not-false (has_chan T N && has_agent T t.master) c.0)).1
+
+  accepted_master : (e : Event) → Clear (grounds s e) → has_agent T (account e).name.master ≡ true
+  unfolding grounds
+  accepted_master (BeginPosted m a) c = master_begins P m a c
+  accepted_master (BeginRead m a) c = master_begins R m a c
+  accepted_master (BeginWrite m a) c = master_begins R m a c
+  accepted_master (Commit N t) c = master_named R N t _ c
+  accepted_master (Post N t) c = master_named P N t _ c
+  accepted_master (Latch N t) c = master_named R N t _ c
+  accepted_master (Complete N t) c = master_named R N t _ c
+  accepted_master (DropRequest N t) c = master_named R N t _ c
+  accepted_master (DropCompletion N t) c = master_named C N t _ c
+
+  pub master_there : (e : Event) {p : Plan} → plan s e ≡ Ok p → has_agent T (account e).name.master ≡ true
+  unfolding plan
+  master_there e h = accepted_master e (clear (grounds s e) (answered_ok (accepted_plan s e) (refusal (grounds s e)) h))
+
+  pub plan_there : (e : Event) {p : Plan} → plan s e ≡ Ok p → Reached T p
+  unfolding plan
+  plan_there e {p} h =
+      let ok : refusal (grounds s e) ≡ None = answered_ok (accepted_plan s e) (refusal (grounds s e)) h in
+      let q : ◌≡◌ {A = Result Plan Refusal} (Ok (accepted_plan s e)) (Ok p) = rw ok at h in
+      subst (Reached T) (ok_same (accepted_plan s e) p q) (accepted_there e (clear (grounds s e) ok))

@@ -1,7 +1,7 @@
 -- Records taken one by one, each in the state that those before it reached: the end state, the refusals and the values.
 use Rattle.std.specs.Prelude.{ℕ, List, [], ◌∷◌}
 use Rattle.network.specs.declared.State.{State}
-use Rattle.events.specs.declared.Decoded.{Decoded}
+use Rattle.events.specs.Records.{Decoded}
 use Rattle.events.specs.Steps.{record_step, refusal_number, answer_value}
 
 unfoldable pub played_state : State → List Decoded → State

@@ -1,25 +1,31 @@
 -- One turn of `play_input`: the next bytes are read, what they print is handed on, and the rest of the log is left.
-use Rattle.std.proofs.Common.{◌≡◌, ℕ, ◌+◌, ◌≤◌, true, false, cond, Bool, List, [], ◌++◌, Option, Some, None, IfSome, refl, sym, ap, ◌∙◌, subst, arith, length, take, drop, append_assoc, append-nil, add-one, inl, inr, take_all, drop_of_length-le, length-take-le, drop_at}
+use Rattle.std.proofs.Common.{◌≡◌, ℕ, ◌+◌, ◌≤◌, true, false, Bool, not, List, [], ◌++◌, Option, Some, None, IfSome, Result, Ok, Err, refl, sym, ap, ◌∙◌, subst, arith, length, take, drop, append_assoc, append-nil, add-one, inl, inr, take_all, drop_of_length-le, length-take-le, drop_at}
 use Rattle.std.proofs.lemmas.List.{take_at}
-use Rattle.base.proofs.Logic.{less_or_same, split}
+use borrow.Author.Tests.{not-true}
+use Rattle.base.proofs.Logic.{less_or_same, split, true_false}
 use Rattle.network.specs.declared.State.{State}
 use Rattle.network.specs.Opening.{zero_state}
 use Rattle.lines.specs.Lines.{texts}
 use Rattle.lines.specs.code.Writing.{Written}
 use Rattle.logs.specs.Logs.{log}
 use Rattle.run_inputs.specs.Inputs.{next_goes_on, next_state, next_lines}
+use Rattle.events.proofs.SoundStays.{Right}
+use Rattle.run_inputs.proofs.Going.{next_right}
 use Rattle.run_inputs.proofs.Turning.{left_lines, left_on, left_last, left_all}
 use Rattle.run_inputs.proofs.Printing.{written_read}
 use Rattle.play_inputs.specs.declared.Log.{Log}
-use Rattle.play_inputs.specs.declared.Got.TheVariants.{Bytes}
-use Rattle.play_inputs.specs.declared.Played.{Played}
-use Rattle.play_inputs.specs.declared.Played.TheVariants.{Done, Differs, ReadFailed, WriteFailed, Cut}
+use Rattle.play_inputs.specs.declared.PlayError.{PlayError}
+use Rattle.std.specs.Result.{IsErr}
 use Rattle.play_inputs.specs.Known.{BlockRead, Took, TookPart, EndedAs, EndedWithLog}
 use Rattle.play_inputs.proofs.Taking.{took_nothing, took_both, took_begun, took_on}
 
 pub if_some : {P Q : List ℕ → Type 0} (o : Option (List ℕ)) → ((xs : List ℕ) → P xs → Q xs) → IfSome o P → IfSome o Q
 if_some None f h = tt
 if_some (Some xs) f h = f xs h
+
+-- behind a block that is read on from the state is sound
+pub right_on : (place : ℕ) (s z : State) (b : List ℕ) (going : Bool) → ((place ≡ 0 → ⊥) → Right s) → z ≡ next_state place s b → going ≡ next_goes_on place b → going ≡ true → Right z
+right_on place s z b going w h g t = subst Right (sym h) (next_right place s b w (sym g ∙ t))
 
 -- of a reader that has `rest` left the bytes of a block are the next 512, or all that there are
 record NextRead (rest : List ℕ) (left : Option (List ℕ)) (bytes : List ℕ) : Type 0 where
@@ -40,7 +46,7 @@ block_read rest bytes ys e h = record {
   left_are = ap Some (sym (ap (drop 512) e ∙ drop_at bytes ys 512 h));
 }
 
-next_read : (rest block : List ℕ) (left : Option (List ℕ)) (n : ℕ) → n ≤ 512 → length block ≡ 512 → BlockRead (Some rest) left (Bytes n) block
+next_read : (rest block : List ℕ) (left : Option (List ℕ)) (n : ℕ) → n ≤ 512 → length block ≡ 512 → BlockRead (Some rest) left (Some n) block
     → NextRead rest left (take n block)
 next_read rest block None n h e read = absurd read.0
 next_read rest block (Some ys) n h e read =
@@ -65,79 +71,83 @@ module _ {W S : Type 0} (contents : W → Option (List ℕ)) (remaining : S → 
 
   -- the input cannot be read on
   pub ends_unread : {old new : Log W S} {s : State} {place : ℕ} {left : Option (List ℕ)} (input : List ℕ) → Left old new s place left input
-      → EndedWithLog contents remaining ReadFailed old new input
+      → TookPart contents remaining old new (log input)
   ends_unread {old} {new} input l = subst (TookPart contents remaining old new) (sym l.whole) (took_begun contents remaining old new l.done _ l.took)
 
-  -- the log is not as it is to be
-  pub faulty : (old new : Log W S) (compare : Bool) (p : Played) (text : List ℕ) → p ≡ cond compare Differs WriteFailed → TookPart contents remaining old new text
-      → EndedAs contents remaining p old new text
-  faulty old new true p text e took = rw e took
-  faulty old new false p text e took = rw e took
+  -- nothing but a beginning was taken, and that is said
+  failed : (old new : Log W S) (r : Result Unit PlayError) (text : List ℕ) → IsErr r → TookPart contents remaining old new text → EndedAs contents remaining r old new text
+  failed old new (Ok u) text e took = absurd (true_false (sym e))
+  failed old new (Err f) text e took = took
 
-  module _ (old mid new : Log W S) (s : State) (place : ℕ) (left next : Option (List ℕ)) (block out page : List ℕ) (n end : ℕ) (fits : n ≤ 512) (long : length block ≡ 512)
-      (read : BlockRead left next (Bytes n) block) (written : Written out 0 (texts (next_lines place s (take n block))) page end) (room : end ≤ length out) (input : List ℕ)
-      (l : Left old mid s place left input) where
+  module _ (old mid new : Log W S) (s : State) (place : ℕ) (left next input : Option (List ℕ)) (before block out page : List ℕ) (got : Option ℕ) (n end : ℕ) (is : got ≡ Some n)
+      (full : length before ≡ 512) (kept : length block ≡ length before) (within : IfSome got (λ n. n ≤ length before)) (read : BlockRead left next got block)
+      (written : Written out 0 (texts (next_lines place s (take n block))) page end) (room : length out ≡ 2560) (bound : end ≤ 2560) (lefts : IfSome input (Left old mid s place left)) where
     text : List ℕ
     text = take end page
 
-    here : NextRead l.rest next (take n block)
-    here = next_read l.rest block next n fits long (subst (λ o. BlockRead o next (Bytes n) block) l.left_are read)
+    module _ (whole : List ℕ) (l : Left old mid s place left whole) where
+      here : NextRead l.rest next (take n block)
+      here =
+          let fits : n ≤ 512 = omega (arith, rw is at within, full) in
+          next_read l.rest block next n fits (kept ∙ full) (rw (is, l.left_are) at read)
 
-    printed : text ≡ texts (next_lines place s (take 512 l.rest))
-    unfolding text
-    printed = subst (λ b. text ≡ texts (next_lines place s b)) here.bytes_are (written_read written (omega (arith, written.behind, room)))
+      printed : text ≡ texts (next_lines place s (take 512 l.rest))
+      unfolding text
+      printed = subst (λ b. text ≡ texts (next_lines place s b)) here.bytes_are (written_read written (omega (arith, written.behind, room, bound)))
 
-    on : next_goes_on place (take n block) ≡ true → log input ≡ (l.done ++ text) ++ texts (left_lines (place + 1) (next_state place s (take n block)) (drop 512 l.rest))
-    on g =
-        let r = here in
-        let p = printed in
-        rw (r.bytes_are, p, add-one)
-        (l.whole ∙ ap (λ t. l.done ++ t) (left_on place s l.rest (rw r.bytes_are at g)) ∙ sym (append_assoc l.done _ _))
+      on : next_goes_on place (take n block) ≡ true → log whole ≡ (l.done ++ text) ++ texts (left_lines (place + 1) (next_state place s (take n block)) (drop 512 l.rest))
+      on g =
+          let r = here in
+          let p = printed in
+          rw (r.bytes_are, p, add-one)
+          (l.whole ∙ ap (λ t. l.done ++ t) (left_on place s l.rest (rw r.bytes_are at g)) ∙ sym (append_assoc l.done _ _))
 
-    off : next_goes_on place (take n block) ≡ false → log input ≡ l.done ++ (text ++ [])
-    off g =
-        let r = here in
-        let p = printed in
-        rw p (l.whole ∙ ap (λ t. l.done ++ t) (left_last place s l.rest (rw r.bytes_are at g)))
+      off : next_goes_on place (take n block) ≡ false → log whole ≡ l.done ++ (text ++ [])
+      off g =
+          let r = here in
+          let p = printed in
+          rw p (l.whole ∙ ap (λ t. l.done ++ t) (left_last place s l.rest (rw r.bytes_are at g)))
 
-    part : (zs : List ℕ) × (log input ≡ l.done ++ (text ++ zs))
-    part =
-        split (next_goes_on place (take n block))
-        (λ g. (texts (left_lines (place + 1) (next_state place s (take n block)) (drop 512 l.rest)), on g ∙ append_assoc l.done text _))
-        (λ g. ([], off g))
+      part : (zs : List ℕ) × (log whole ≡ l.done ++ (text ++ zs))
+      part =
+          split (next_goes_on place (take n block))
+          (λ g. (texts (left_lines (place + 1) (next_state place s (take n block)) (drop 512 l.rest)), on g ∙ append_assoc l.done text _))
+          (λ g. ([], off g))
+
+      goes_on_so : next_goes_on place (take n block) ≡ true → Took contents remaining mid new text → Left old new (next_state place s (take n block)) (place + 1) next whole
+      goes_on_so g took = record {
+        done = l.done ++ text;
+        rest = drop 512 l.rest;
+        left_are = here.left_are;
+        took = took_both contents remaining old mid new l.done text l.took took;
+        whole = on g;
+      }
+
+      ends_cut_so : TookPart contents remaining mid new text → TookPart contents remaining old new (log whole)
+      ends_cut_so took = let (zs, e) = part in subst (TookPart contents remaining old new) (sym e) (took_on contents remaining old mid new l.done text zs l.took took)
+
+      ends_so : (ended : Log W S) (r : Result Unit PlayError) → next_goes_on place (take n block) ≡ false → Took contents remaining mid new text
+          → EndedAs contents remaining r new ended [] → EndedWithLog contents remaining r old ended whole
+      ends_so ended (Ok u) g took e =
+          let all = took_both contents remaining old mid ended l.done (text ++ []) l.took (took_both contents remaining mid new ended text [] took e.0) in
+          (subst (Took contents remaining old ended) (sym (off g)) all, e.1)
+      ends_so ended (Err f) g took e =
+          let some = took_on contents remaining old new ended (l.done ++ text) [] [] (took_both contents remaining old mid new l.done text l.took took) e in
+          subst (TookPart contents remaining old ended) (append_assoc l.done text [] ∙ sym (off g)) some
 
     -- the input goes on behind a block that was handed on
-    pub goes_on : (z : State) → z ≡ next_state place s (take n block) → next_goes_on place (take n block) ≡ true → Took contents remaining mid new (take end page)
-        → Left old new z (place + 1) next input
+    pub goes_on : (z : State) (going : Bool) → z ≡ next_state place s (take n block) → going ≡ next_goes_on place (take n block) → going ≡ true → Took contents remaining mid new (take end page)
+        → IfSome input (Left old new z (place + 1) next)
     unfolding text
-    goes_on z h g took = rw h record {
-      done = l.done ++ text;
-      rest = drop 512 l.rest;
-      left_are = here.left_are;
-      took = took_both contents remaining old mid new l.done text l.took took;
-      whole = on g;
-    }
+    goes_on z going h g t took = rw h (if_some input (λ whole l. goes_on_so whole l (sym g ∙ t) took) lefts)
 
     -- a block's lines could not be handed on
-    pub ends_cut : TookPart contents remaining mid new (take end page) → TookPart contents remaining old new (log input)
+    pub ends_cut : (r : Result Unit PlayError) → IsErr r → TookPart contents remaining mid new (take end page) → IfSome input (EndedWithLog contents remaining r old new)
     unfolding text
-    ends_cut took = let (zs, e) = part in subst (TookPart contents remaining old new) (sym e) (took_on contents remaining old mid new l.done text zs l.took took)
-
-    ends_after : (ended : Log W S) → next_goes_on place (take n block) ≡ false → Took contents remaining mid new (take end page)
-        → TookPart contents remaining new ended [] → TookPart contents remaining old ended (log input)
-    unfolding text
-    ends_after ended g took e =
-        let some = took_on contents remaining old new ended (l.done ++ text) [] [] (took_both contents remaining old mid new l.done text l.took took) e in
-        subst (TookPart contents remaining old ended) (append_assoc l.done text [] ∙ sym (off g)) some
+    ends_cut r e took = if_some input (λ whole l. failed old new r (log whole) e (ends_cut_so whole l took)) lefts
 
     -- the input is at its end
-    pub ends : (ended : Log W S) (p : Played) → next_goes_on place (take n block) ≡ false → Took contents remaining mid new (take end page)
-        → EndedAs contents remaining p new ended [] → EndedWithLog contents remaining p old ended input
+    pub ends : (ended : Log W S) (r : Result Unit PlayError) (going : Bool) → going ≡ next_goes_on place (take n block) → not going ≡ true → Took contents remaining mid new (take end page)
+        → EndedAs contents remaining r new ended [] → IfSome input (EndedWithLog contents remaining r old ended)
     unfolding text
-    ends ended Done g took e =
-        let all = took_both contents remaining old mid ended l.done (text ++ []) l.took (took_both contents remaining mid new ended text [] took e.0) in
-        (subst (Took contents remaining old ended) (sym (off g)) all, e.1)
-    ends ended Differs g took e = ends_after ended g took e
-    ends ended ReadFailed g took e = ends_after ended g took e
-    ends ended WriteFailed g took e = ends_after ended g took e
-    ends ended Cut g took e = ends_after ended g took e
+    ends ended r going g n took e = if_some input (λ whole l. ends_so whole l ended r (sym g ∙ not-true going n) took e) lefts

@@ -1,24 +1,21 @@
 -- What is known of an input and its log, where the reader says which bytes it has left and the writer which it holds.
-use Rattle.std.specs.Prelude.{◌≡◌, ℕ, ◌<◌, Bool, true, false, List, take, length, ⊤, Option, Some, None}
+use Rattle.std.specs.Prelude.{◌≡◌, ℕ, ◌<◌, Bool, true, false, List, take, length, ⊤, Option, Some, None, Result, Ok, Err}
 use Rattle.std.specs.Io.{StartsWith}
 use Rattle.std.specs.Io.KnownBytes.{Appends, Consumes, IsAtEnd, Keeps}
 use Rattle.logs.specs.Logs.{log}
-use Rattle.play_inputs.specs.declared.Got.{Got}
-use Rattle.play_inputs.specs.declared.Got.TheVariants.{Bytes, Failed}
 use Rattle.play_inputs.specs.declared.Log.{Log}
 use Rattle.play_inputs.specs.declared.Log.TheVariants.{Written, Compared}
-use Rattle.play_inputs.specs.declared.Played.{Played}
-use Rattle.play_inputs.specs.declared.Played.TheVariants.{Done, Differs, ReadFailed, WriteFailed, Cut}
+use Rattle.play_inputs.specs.declared.PlayError.{PlayError}
 
 -- one read brought what the reader had next, and no byte only at its end or where there was no room; a failed one took none
-abbrev pub PartRead : Option (List ℕ) → Option (List ℕ) → Got → List ℕ → Type 0
-PartRead old new (Bytes n) part = Consumes old new (take n part) × (n ≡ 0 → 0 < length part → IsAtEnd new)
-PartRead old new Failed part = Keeps old new
+abbrev pub PartRead : Option (List ℕ) → Option (List ℕ) → Option ℕ → List ℕ → Type 0
+PartRead old new (Some n) part = Consumes old new (take n part) × (n ≡ 0 → 0 < length part → IsAtEnd new)
+PartRead old new None part = Keeps old new
 
 -- the reads of a block brought what the reader had next, and fewer bytes than there was room for only at its end
-abbrev pub BlockRead : Option (List ℕ) → Option (List ℕ) → Got → List ℕ → Type 0
-BlockRead old new (Bytes n) block = Consumes old new (take n block) × (n < length block → IsAtEnd new)
-BlockRead old new Failed block = ⊤
+abbrev pub BlockRead : Option (List ℕ) → Option (List ℕ) → Option ℕ → List ℕ → Type 0
+BlockRead old new (Some n) block = Consumes old new (take n block) × (n < length block → IsAtEnd new)
+BlockRead old new None block = ⊤
 
 -- one write took the text's beginning; a failed one took nothing
 abbrev pub PartWritten : Option (List ℕ) → Option (List ℕ) → Option ℕ → List ℕ → Type 0
@@ -26,9 +23,9 @@ PartWritten old new (Some n) part = Appends old new (take n part)
 PartWritten old new None part = Keeps old new
 
 -- a text was written, or as much of it as could be
-abbrev pub TextWritten : Option (List ℕ) → Option (List ℕ) → Bool → List ℕ → Type 0
-TextWritten old new true text = Appends old new text
-TextWritten old new false text = (bs : List ℕ) × Appends old new bs × StartsWith text bs
+abbrev pub TextWritten : Option (List ℕ) → Option (List ℕ) → Result Unit PlayError → List ℕ → Type 0
+TextWritten old new (Ok u) text = Appends old new text
+TextWritten old new (Err e) text = (bs : List ℕ) × Appends old new bs × StartsWith text bs
 
 module _ {W S : Type 0} where
   -- the log is compared, not written
@@ -57,19 +54,16 @@ module _ {W S : Type 0} where
     TookPart (Compared s) (Compared r) text = ⊤
 
     -- a part of the log was handed on, or as much of it as could be
-    abbrev pub HandedOn : Bool → Log W S → Log W S → List ℕ → Type 0
-    HandedOn true old new text = Took old new text
-    HandedOn false old new text = TookPart old new text
+    abbrev pub HandedOn : Result Unit PlayError → Log W S → Log W S → List ℕ → Type 0
+    HandedOn (Ok u) old new text = Took old new text
+    HandedOn (Err e) old new text = TookPart old new text
 
     -- how a log ended: of a text that was played to its end all was taken and nothing is left; and whatever went wrong, nothing
     -- was written but the text's beginning
-    abbrev pub EndedAs : Played → Log W S → Log W S → List ℕ → Type 0
-    EndedAs Done old new text = Took old new text × IsOver new
-    EndedAs Differs old new text = TookPart old new text
-    EndedAs ReadFailed old new text = TookPart old new text
-    EndedAs WriteFailed old new text = TookPart old new text
-    EndedAs Cut old new text = TookPart old new text
+    abbrev pub EndedAs : Result Unit PlayError → Log W S → Log W S → List ℕ → Type 0
+    EndedAs (Ok u) old new text = Took old new text × IsOver new
+    EndedAs (Err e) old new text = TookPart old new text
 
     -- an input ended so, and the text is its log
-    abbrev pub EndedWithLog : Played → Log W S → Log W S → List ℕ → Type 0
+    abbrev pub EndedWithLog : Result Unit PlayError → Log W S → Log W S → List ℕ → Type 0
     EndedWithLog played old new input = EndedAs played old new (log input)

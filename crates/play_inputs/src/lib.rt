@@ -13,34 +13,41 @@
 
 #![tactic(auto)]
 
-ghost use Rattle.std.specs.Prelude.{◌≡◌, true, false, cond, ◌≤◌, [], length, IfSome};
+ghost use Rattle.std.specs.Prelude.{◌≡◌, true, false, ◌≤◌, [], length, IfSome, IfErr, OnOk};
 ghost use Rattle.run_inputs.specs.Inputs.{next_goes_on};
-ghost use Rattle.play_inputs.specs.Endings.{can_end, Within};
+ghost use Rattle.play_inputs.specs.Endings.{can_end};
 ghost use Rattle.play_inputs.specs.Known.{PartRead, BlockRead, PartWritten, TextWritten, is_compared, HandedOn, EndedAs, EndedWithLog};
-ghost use Rattle.play_inputs.specs.declared.Played.TheVariants.{Differs, WriteFailed};
+ghost use Rattle.play_inputs.specs.declared.PlayError.TheVariants.{Differs, WriteFailed};
 ghost use Rattle.std.specs.Io.KnownBytes.{Consumes};
 
 use network::zero;
 use run_inputs::play_next;
+use std::error::Error;
+use std::fmt;
 use std::io::{ErrorKind, Read, Write};
 
-// How it ended: the log is written to its end, or is the same to its end; it differs; the input cannot be read; the log cannot
-// be written; or the loop's bound cut it, which never comes.
-#[derive(Clone, Copy)]
-pub enum Played {
-    Done,
+// Why an input is not done: its log differs from the stored one; it cannot be read; the log cannot be written; or the loop's
+// bound cut it, which never comes.
+#[derive(Clone, Copy, Debug, PartialEq, Eq)]
+pub enum PlayError {
     Differs,
     ReadFailed,
     WriteFailed,
     Cut,
 }
 
-// What a read brought: so many bytes, fewer than there was room for only at the end of the input; or it failed.
-#[derive(Clone, Copy)]
-pub enum Got {
-    Bytes(usize),
-    Failed,
+impl fmt::Display for PlayError {
+    fn fmt<W: fmt::Write>(&self, f: &mut fmt::Formatter<W>) -> fmt::Result {
+        match self {
+            PlayError::Differs => write!(f, "the log differs"),
+            PlayError::ReadFailed => write!(f, "the input cannot be read"),
+            PlayError::WriteFailed => write!(f, "the log cannot be written"),
+            PlayError::Cut => write!(f, "the input is cut"),
+        }
+    }
 }
+
+impl Error for PlayError {}
 
 // What becomes of a log: it is written, or compared with a stored one.
 #[derive(Drop)]
@@ -49,58 +56,43 @@ pub enum Log<W, S> {
     Compared(S),
 }
 
-impl<W, S> Log<W, S> {
-    fn is_compared(&self) -> bool
-        ensures { result ≡ is_compared self.now }
-    {
-        match self {
-            Log::Written(_) => false,
-            Log::Compared(_) => true,
-        }
-    }
-}
-
 // So many calls in a row that a signal interrupted have failed.
 const TRIES: u32 = 1000;
 
-// One read. A call that a signal interrupted is made again; a thousand interrupted calls in a row have failed.
-fn read_part<R: Read>(from: &mut R, part: &mut [u8]) -> Got
-    ensures within { Within (length part.old) result }
+// One read: so many bytes, fewer than there was room for only at the end of the input; none where it failed. A call that a
+// signal interrupted is made again; a thousand interrupted calls in a row have failed.
+fn read_part<R: Read>(from: &mut R, part: &mut [u8]) -> Option<usize>
+    ensures within { IfSome result (λ n. n ≤ length part.old) }
     ensures known { PartRead (R.remaining from.old) (R.remaining from.new) result part.new }
 {
     for _ in 0..TRIES {
         match from.read(part) {
-            Ok(n) => return Got::Bytes(n),
-            Err(e) => {
-                if e.kind() != ErrorKind::Interrupted {
-                    return Got::Failed;
-                }
-            }
+            Ok(n) => return Some(n),
+            Err(e) if e.kind() == ErrorKind::Interrupted => {}
+            Err(_) => return None,
         }
     }
-    Got::Failed
+    None
 }
 
-// Reads until `block` is full or the input is at its end.
-fn read_block<R: Read>(from: &mut R, block: &mut [u8]) -> Got
-    ensures within { Within (length block.old) result }
+// Reads until `block` is full or the input is at its end. A `while`, since a turn goes on by what its read brought.
+fn read_block<R: Read>(from: &mut R, block: &mut [u8]) -> Option<usize>
+    ensures within { IfSome result (λ n. n ≤ length block.old) }
     ensures known { BlockRead (R.remaining from.old) (R.remaining from.new) result block.new }
 {
     let mut done: usize = 0;
     while done < block.len() {
-        let got = read_part(from, &mut block[done..]);
-        let Got::Bytes(n) = got else {
-            return Got::Failed;
-        };
+        let n = read_part(from, &mut block[done..])?;
         if n == 0 {
-            return Got::Bytes(done);
+            return Some(done);
         }
         done += n;
     }
-    Got::Bytes(done)
+    Some(done)
 }
 
-// One write: so many bytes, or none where it failed. Interrupted calls are as in `read_part`.
+// One write: so many bytes, or none where it failed. Interrupted calls are as in `read_part`: one loop for both would be handed
+// either call as a closure, and its contract would have to say what the closure's calls do, which is no plainer.
 fn write_part<W: Write>(to: &mut W, part: &[u8]) -> Option<usize>
     ensures within { IfSome result (λ n. n ≤ length part.now) }
     ensures known { PartWritten (W.contents to.old) (W.contents to.new) result part.now }
@@ -108,57 +100,47 @@ fn write_part<W: Write>(to: &mut W, part: &[u8]) -> Option<usize>
     for _ in 0..TRIES {
         match to.write(part) {
             Ok(n) => return Some(n),
-            Err(e) => {
-                if e.kind() != ErrorKind::Interrupted {
-                    return None;
-                }
-            }
+            Err(e) if e.kind() == ErrorKind::Interrupted => {}
+            Err(_) => return None,
         }
     }
     None
 }
 
-// Writes all of `text`, or as much as can be written.
-fn write_text<W: Write>(to: &mut W, text: &[u8]) -> bool
-    ensures { TextWritten (W.contents to.old) (W.contents to.new) result text.now }
+// Writes all of `text`, or as much as can be written. A `while`, since a turn goes on by what its write took.
+fn write_text<W: Write>(to: &mut W, text: &[u8]) -> Result<(), PlayError>
+    ensures ending { IfErr result (λ e. e ≡ WriteFailed) }
+    ensures known { TextWritten (W.contents to.old) (W.contents to.new) result text.now }
 {
     let mut done: usize = 0;
     while done < text.len() {
-        let Some(n) = write_part(to, &text[done..]) else {
-            return false;
-        };
-        if n == 0 {
-            return false;
+        match write_part(to, &text[done..]) {
+            None | Some(0) => return Err(PlayError::WriteFailed),
+            Some(n) => done += n,
         }
-        done += n;
     }
-    true
-}
-
-fn are_same(a: &[u8], b: &[u8]) -> bool
-    ensures { result ≡ true → a.now ≡ b.now }
-{
-    a == b
+    Ok(())
 }
 
 // Compares `text` with as many bytes of the stored log.
-fn compare_text<S: Read>(stored: &mut S, text: &[u8]) -> bool
+fn compare_text<S: Read>(stored: &mut S, text: &[u8]) -> Result<(), PlayError>
     requires { length text.now ≤ 2560 }
-    ensures { result ≡ true → Consumes (S.remaining stored.old) (S.remaining stored.new) text.now }
+    ensures ending { IfErr result (λ e. e ≡ Differs) }
+    ensures known { OnOk result (Consumes (S.remaining stored.old) (S.remaining stored.new) text.now) }
 {
     let mut there: [u8; 2560] = [0; 2560];
     let part = &mut there[..text.len()];
-    let got = read_block(stored, part);
-    let Got::Bytes(n) = got else {
-        return false;
-    };
-    are_same(&part[..n], text)
+    match read_block(stored, part) {
+        Some(n) if &part[..n] == text => Ok(()),
+        _ => Err(PlayError::Differs),
+    }
 }
 
 // A part of the log: written, or compared with as many bytes of the stored one.
-fn hand_on<W: Write, S: Read>(log: &mut Log<W, S>, text: &[u8]) -> bool
+fn hand_on<W: Write, S: Read>(log: &mut Log<W, S>, text: &[u8]) -> Result<(), PlayError>
     requires { length text.now ≤ 2560 }
     ensures kept { is_compared log.new ≡ is_compared log.old }
+    ensures ending { can_end (is_compared log.old) result ≡ true }
     ensures known { HandedOn W.contents S.remaining result log.old log.new text.now }
 {
     match log {
@@ -167,65 +149,42 @@ fn hand_on<W: Write, S: Read>(log: &mut Log<W, S>, text: &[u8]) -> bool
     }
 }
 
-// The log is not as it is to be.
-fn fault(compare: bool) -> Played
-    ensures ending { can_end compare result ≡ true }
-    ensures value { result ≡ cond compare Differs WriteFailed }
-{
-    if compare {
-        return Played::Differs;
-    }
-    Played::WriteFailed
-}
-
 // The input is played: a log that is compared must be at its end too. Only here is an input called done, and whoever calls
 // this must have the bytes behind which it ends; `place` and `last` are there for that alone.
-fn ending<W: Write, S: Read>(log: &mut Log<W, S>, place: u32, last: &[u8]) -> Played
+fn ending<W: Write, S: Read>(log: &mut Log<W, S>, place: u32, last: &[u8]) -> Result<(), PlayError>
     requires { next_goes_on place last.now ≡ false }
     ensures ending { can_end (is_compared log.old) result ≡ true }
     ensures known { EndedAs W.contents S.remaining result log.old log.new [] }
 {
     let Log::Compared(stored) = log else {
-        return Played::Done;
+        return Ok(());
     };
     let mut one: [u8; 1] = [0; 1];
-    let got = read_block(stored, &mut one);
-    let Got::Bytes(n) = got else {
-        return Played::Differs;
-    };
-    if n == 0 {
-        return Played::Done;
+    match read_block(stored, &mut one) {
+        Some(0) => Ok(()),
+        _ => Err(PlayError::Differs),
     }
-    Played::Differs
 }
 
 // Plays the blocks read from `input`. Their log is written, or compared with all that can be read of the stored one.
-pub fn play_input<R: Read, W: Write, S: Read>(input: &mut R, log: &mut Log<W, S>) -> Played
+pub fn play_input<R: Read, W: Write, S: Read>(
+    input: &mut R,
+    log: &mut Log<W, S>,
+) -> Result<(), PlayError>
     ensures ending { can_end (is_compared log.old) result ≡ true }
     ensures known { IfSome (R.remaining input.old) (EndedWithLog W.contents S.remaining result log.old log.new) }
 {
-    let compare = log.is_compared();
     let mut block: [u8; 512] = [0; 512];
     let mut out: [u8; 2560] = [0; 2560];
     let mut state = zero();
-    let mut place: u32 = 0;
-    while place < 65537 {
-        let got = read_block(input, &mut block);
-        let Got::Bytes(n) = got else {
-            return Played::ReadFailed;
-        };
+    for place in 0..65537 {
+        let n = read_block(input, &mut block).ok_or(PlayError::ReadFailed)?;
         let r = play_next(state, place, &block[..n], &mut out);
-        let end = r.end;
-        if !hand_on(log, &out[..end]) {
-            return fault(compare);
-        }
-        let going = r.going;
-        if !going {
+        hand_on(log, &out[..r.end])?;
+        if !r.going {
             return ending(log, place, &block[..n]);
         }
-        let next = r.state;
-        state = next;
-        place += 1;
+        state = r.state;
     }
-    Played::Cut
+    Err(PlayError::Cut)
 }

@@ -3,12 +3,13 @@
 use Prim.Native.Nat.{ℕ, ◌+◌, ◌*◌, ◌/◌, ◌<◌, ◌≤◌}
 use mathlib.Core.Path.{◌≡◌, refl, sym, ap, subst, subst⁻¹, ◌∙◌}
 use mathlib.Core.List.{List, [], ◌∷◌, ◌++◌, map, append-nil}
-use mathlib.Core.Option.{Option, none, some}
+use Rattle.std.specs.Prelude.{Option, None, Some, Err}
 use native.Mathlib.Omega.{arith}
 use native.Mathlib.Numerals.{add-one}
 use borrow.Author.Tests.{not-false}
 use lib.ListN.{length, take, drop, set, length-set, length-take, take-append-drop, drop_of_length-le}
 use lib.Seq.{drop-set-lt, drop-drop}
+use Rattle.base.specs.declared.Refusal.{Refusal}
 use Rattle.base.specs.Grounds.{refusal}
 use Rattle.base.proofs.Grounds.{clear}
 use Rattle.base.proofs.Orders.{All}
@@ -19,39 +20,23 @@ use Rattle.chassis.specs.Capacities.{most_records}
 use Rattle.queue.specs.declared.Transaction.{Transaction}
 use Rattle.queue.specs.Entries.{R}
 use Rattle.queue.specs.Queues.{stands}
-use Rattle.queue.specs.Packing.{live}
-use Rattle.network.specs.declared.State.{State}
-use Rattle.network.specs.Nets.{Net, view, waiting}
-use Rattle.network.specs.code.Acts.{channel_at}
+use Rattle.network.specs.Nets.{Net, waiting}
 use Rattle.events.specs.declared.Event.{Event}
 use Rattle.events.specs.declared.Event.TheVariants.{Complete}
-use Rattle.events.specs.declared.Decoded.{Decoded}
-use Rattle.events.specs.declared.Decoded.TheVariants.{Known}
 use Rattle.events.specs.Tests.{ahead}
-use Rattle.events.specs.Records.{decoded, records}
+use Rattle.events.specs.Records.{decoded, records, Decoded}
 use Rattle.events.specs.Grounds.{named_grounds, grounds, Accepted}
 use Rattle.events.specs.Steps.{record_grounds}
-use Rattle.events.proofs.SoundStays.{Right}
-use Rattle.read_events.specs.declared.Frame.{Frame}
-use Rattle.play_events.specs.declared.Notice.{Notice}
-use Rattle.judge_events.specs.declared.Plan.{Plan}
-use Rattle.play_events.specs.Notices.{notice}
-use Rattle.read_events.specs.Frames.{frame, next_of}
-use Rattle.judge_events.specs.Plans.{record_plan}
-use Rattle.play_events.proofs.CarriedOut.{framed_own}
-use Rattle.play_events.proofs.Carried.{table_of}
-use Rattle.play_events.proofs.Shown.{next_right}
+use Rattle.read_events.specs.Frames.{next_of}
 use Rattle.play_events.proofs.Playing.{how_many, the_record}
-use Rattle.play_events.proofs.Single.{plan_clear, plan_refuses}
-use Rattle.ticks.specs.declared.TickAnswer.{TickAnswer}
-use Rattle.ticks.specs.declared.TickAnswer.TheVariants as tick-answer
+use Rattle.ticks.specs.declared.TickRefusal.TheVariants as tick-refusal
 use Rattle.ticks.specs.Footings.{Footing, footing}
+use Rattle.ticks.specs.declared.TickRefusal.{TickRefusal}
 use Rattle.ticks.specs.Ticks.{known, first_refused, first_pair}
 use Rattle.ticks.proofs.Judged.{EachAlone, none_refused}
 use Rattle.ticks.proofs.Searches.{known_all, each_known}
-use Rattle.compare_events.specs.declared.Foot.{Foot}
 use Rattle.play_ticks.specs.declared.Turn.{Turn}
-use Rattle.compare_events.specs.Feet.{foot, footing_of}
+use Rattle.compare_events.specs.Feet.{footing_of}
 use Rattle.play_ticks.specs.Turns.{turn, turns_made, laid_over, answer_by, clash_pair, footings, refused_or, judged_answer}
 use Rattle.compare_events.proofs.Standing.{foot_stands}
 use Rattle.play_ticks.proofs.Pairing.{pair_of}
@@ -66,32 +51,25 @@ asked s N t ok = let h = not-false (stands R t (waiting s N)) (clear (grounds s 
 next_asked : (s : Net) (e : Event) → Accepted s e → (N : Chan) (t : Transaction) → e ≡ Complete N t → next_of s e ≡ ahead s R N t
 next_asked s e ok N t q = subst⁻¹ (λ (x : Event). next_of s x ≡ ahead s R N t) q (asked s N t (subst (Accepted s) q ok))
 
-turn_stands : (s : Net) (e : Event) → Accepted s e → footing_of (turn s (Known e)).foot ≡ footing s e
+turn_stands : (s : Net) (e : Event) → Accepted s e → footing_of (turn s e).foot ≡ footing s e
 unfolding turn
-turn_stands s e ok =
-    ap (λ (f : Frame). footing_of (foot s.table f.event (next_of s f.event))) (framed_own s e ok)
-    ∙ foot_stands s e (next_of s e) (next_asked s e ok)
+turn_stands s e ok = foot_stands s e (next_of s e) (next_asked s e ok)
 
-turns_stand : (s : Net) (es : List Event) → All (Accepted s) es → footings (map (turn s) (map Known es)) ≡ map (footing s) es
+turns_stand : (s : Net) (es : List Event) → All (Accepted s) es → footings (map (turn s) es) ≡ map (footing s) es
 turns_stand s [] a = refl
 turns_stand s (e ∷ es) a = rw (turn_stands s e a.0, turns_stand s es a.1)
 
--- ---- a turn as it was read
-
--- what was read off a sound state and told leaves the record's own turn
-module _ (s : State) (r : Right s) (d : Decoded) (f : Frame) (isf : f ≡ frame s.table d) where
-  pub turn_read : (n : Notice) → n ≡ notice s.table f (live (channel_at s f.at)) → (p : Plan) → p ≡ record_plan (view s) d
-      → (x : Foot) → x ≡ foot s.table f.event n.next → record { plan = p; master = f.master; foot = x } ≡ turn (view s) d
-  unfolding turn notice view
-  turn_read n isn p isp x isx =
-      let q : n.next ≡ next_of (view s) f.event = ap (λ (y : Notice). y.next) isn ∙ next_right s (table_of s r) d f isf _ refl _ refl in
-      rw (isx, isp, q) (ap (λ (g : Frame). record { plan = record_plan (view s) d; master = g.master; foot = foot s.table g.event (next_of (view s) g.event) }) isf)
-
 -- where each is accepted alone, each leaves its turn
-pub all_made : (s : Net) (ds : List Decoded) → EachAlone s ds → turns_made s ds ≡ map (turn s) ds
+pub all_made : (s : Net) (es : List Event) → All (Accepted s) es → turns_made s (map Some es) ≡ map (turn s) es
 unfolding turns_made
 all_made s [] a = refl
-all_made s (d ∷ ds) a = let n = a.0 in rw (n, turns_made, all_made s ds a.1)
+all_made s (e ∷ es) a = let n = a.0 in rw (n, turns_made, all_made s es a.1)
+
+-- a refused record leaves none, and ends the list
+none_made : (s : Net) (d : Decoded) (ds : List Decoded) {n : Refusal} → refusal (record_grounds s d) ≡ Some n → turns_made s (d ∷ ds) ≡ []
+unfolding turns_made record_grounds
+none_made s None ds h = refl
+none_made s (Some e) ds h = rw (h, turns_made)
 
 -- ---- the loop
 
@@ -131,51 +109,44 @@ module _ (s : Net) (r : List ℕ) (many : ℕ) (before : List Turn) where
           let l : i < length ds = omega (arith, how_many r) in
           rest_on ds i (decoded []) l ∙ ap (λ (x : Decoded). x ∷ drop (i + 1) ds) (the_record r i (omega arith) ∙ sym isd)
 
-      made_one : refusal (record_grounds s d) ≡ none → turns_made s (d ∷ drop (i + 1) ds) ≡ turn s d ∷ turns_made s (drop (i + 1) ds)
-      unfolding turns_made
-      made_one n = rw (n, turns_made)
-
       -- accepted alone: the next one
-      pub judge_on : (x : Turn) → x ≡ turn s d → x.plan.refusal ≡ 0 → Judging (set all i x) (i + 1)
-      unfolding first_refused turn
-      judge_on x isx z' =
-          let z : (record_plan s d).refusal ≡ 0 = sym (ap (λ (y : Turn). y.plan.refusal) isx) ∙ z' in
-          let f = j.few in
-          let l = j.long in
-          let n = plan_clear s d z in
-          let goes_on : first_refused s i (d ∷ drop (i + 1) ds) ≡ first_refused s (i + 1) (drop (i + 1) ds) = rw (n, first_refused, add-one) in
-          record {
-            within = omega arith;
-            count = j.count;
-            few = j.few;
-            long = simp length-set j.long;
-            clear = sym (ap (first_refused s i) left ∙ goes_on) ∙ j.clear;
-            made =
-                j.made
-                ∙ ap (λ (l : List Decoded). take i all ++ turns_made s l) left
-                ∙ ap (take i all ++◌) (made_one n ∙ ap (λ (y : Turn). y ∷ turns_made s (drop (i + 1) ds)) (sym isx))
-                ∙ sym (filled_on all i x (turns_made s (drop (i + 1) ds)) (omega arith));
-            left = drop-set-lt (i + 1) all i x (omega arith) ∙ sym (drop-drop 1 i all) ∙ ap (drop 1) j.left ∙ drop-drop 1 i before;
-          }
+      module _ (e : Event) (ise : d ≡ Some e) (ok : Accepted s e) where
+        here : drop i ds ≡ Some e ∷ drop (i + 1) ds
+        here = left ∙ ap (λ (x : Decoded). x ∷ drop (i + 1) ds) ise
+
+        made_one : turns_made s (drop i ds) ≡ turn s e ∷ turns_made s (drop (i + 1) ds)
+        unfolding turns_made
+        made_one = ap (turns_made s) here ∙ rw (ok, turns_made)
+
+        goes_on : first_refused s i (drop i ds) ≡ first_refused s (i + 1) (drop (i + 1) ds)
+        unfolding first_refused record_grounds
+        goes_on = ap (first_refused s i) here ∙ rw (ok, first_refused, add-one)
+
+        pub judge_on : Judging (set all i (turn s e)) (i + 1)
+        judge_on =
+            let f = j.few in
+            let l = j.long in
+            let behind = turns_made s (drop (i + 1) ds) in
+            record {
+              within = omega arith;
+              count = j.count;
+              few = j.few;
+              long = simp length-set j.long;
+              clear = sym goes_on ∙ j.clear;
+              made = j.made ∙ ap (take i all ++◌) made_one ∙ sym (filled_on all i (turn s e) behind (omega arith));
+              left = drop-set-lt (i + 1) all i (turn s e) (omega arith) ∙ sym (drop-drop 1 i all) ∙ ap (drop 1) j.left ∙ drop-drop 1 i before;
+            }
 
       -- refused: it is the lowest, and no turn is made of it or behind it
-      module _ (p : Plan) (isp : p ≡ record_plan s d) (z : p.refusal ≡ 0 → ⊥) where
-        same_number : p.refusal ≡ (record_plan s d).refusal
-        same_number = ap (λ (y : Plan). y.refusal) isp
-
-        is_refused : refusal (record_grounds s d) ≡ some (record_plan s d).refusal
-        is_refused = plan_refuses s d (λ k. z (same_number ∙ k))
-
-        pub judge_stop : tick-answer.Refused p.refusal i ≡ judged_answer s ds
+      module _ (n : Refusal) (h : refusal (record_grounds s d) ≡ Some n) where
+        pub judge_stop : Err (tick-refusal.Refused n i) ≡ judged_answer s ds
         unfolding first_refused judged_answer
         judge_stop =
-            let n = is_refused in
-            let f : first_refused s 0 ds ≡ some (tick-answer.Refused (record_plan s d).refusal i) = sym j.clear ∙ ap (first_refused s i) left ∙ rw (n, first_refused) in
-            ap (λ (k : ℕ). tick-answer.Refused k i) same_number ∙ sym (ap (λ (o : Option TickAnswer). refused_or o (answer_by (first_pair s 0 (known ds)))) f)
+            let f : first_refused s 0 ds ≡ Some (tick-refusal.Refused n i) = sym j.clear ∙ ap (first_refused s i) left ∙ rw (h, first_refused) in
+            sym (ap (λ (o : Option TickRefusal). refused_or o (answer_by (first_pair s 0 (known ds)))) f)
 
         pub made_stop : turns_made s (drop i ds) ≡ []
-        unfolding turns_made
-        made_stop = let n = is_refused in ap (turns_made s) left ∙ rw (n, turns_made)
+        made_stop = ap (turns_made s) left ∙ none_made s d (drop (i + 1) ds) h
 
     -- none is refused: the pairs decide
     module _ (over : many ≤ i) where
@@ -186,25 +157,28 @@ module _ (s : Net) (r : List ℕ) (many : ℕ) (before : List Turn) where
       unfolding turns_made
       made_over = ap (turns_made s) none_left
 
-      none_at_all : first_refused s 0 ds ≡ none
+      none_at_all : first_refused s 0 ds ≡ None
       unfolding first_refused
       none_at_all = sym j.clear ∙ ap (first_refused s i) none_left
 
       each_alone : EachAlone s ds
       each_alone = none_refused s 0 ds none_at_all
 
-      all_judged : take many all ≡ map (turn s) ds
-      all_judged =
-          let w = j.within in
-          let e : many ≡ i = omega arith in
-          ap (λ (k : ℕ). take k all) e ∙ sym (append-nil (take i all)) ∙ ap (take i all ++◌) (sym made_over) ∙ sym j.made ∙ all_made s ds each_alone
-
       pub pairs_decide : answer_by (clash_pair 0 (footings (take many all))) ≡ judged_answer s ds
       unfolding judged_answer
       pairs_decide =
           let k = each_known s ds each_alone in
           let es = k.0 in
-          ap (λ (l : List Turn). answer_by (clash_pair 0 (footings l))) (all_judged ∙ ap (map (turn s)) k.1)
+          let w = j.within in
+          let e : many ≡ i = omega arith in
+          let all_judged : take many all ≡ map (turn s) es =
+          ap (λ (k : ℕ). take k all) e
+          ∙ sym (append-nil (take i all))
+          ∙ ap (take i all ++◌) (sym made_over)
+          ∙ sym j.made
+          ∙ ap (turns_made s) k.1
+          ∙ all_made s es k.2 in
+          ap (λ (l : List Turn). answer_by (clash_pair 0 (footings l))) all_judged
           ∙ ap (λ (l : List Footing). answer_by (clash_pair 0 l)) (turns_stand s es k.2)
           ∙ ap answer_by (pair_of s 0 es ∙ sym (ap (first_pair s 0) (ap known k.1 ∙ known_all es)))
-          ∙ sym (ap (λ (o : Option TickAnswer). refused_or o (answer_by (first_pair s 0 (known ds)))) none_at_all)
+          ∙ sym (ap (λ (o : Option TickRefusal). refused_or o (answer_by (first_pair s 0 (known ds)))) none_at_all)

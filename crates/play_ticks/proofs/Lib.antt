@@ -4,4 +4,3 @@ pub mod Carrying
 pub mod Judging
 pub mod CarriedTogether
 pub mod TickPlayed
-pub mod OneResult

@@ -4,7 +4,7 @@ use Prim.Native.Nat.{ℕ, suc, ◌+◌, ◌<◌, ◌≤◌}
 use mathlib.Core.Path.{◌≡◌, refl, sym, ap, ◌∙◌}
 use mathlib.Core.Bool.{Bool, true, false, cond}
 use mathlib.Core.List.{List, [], ◌∷◌, map}
-use mathlib.Core.Option.{Option, none, some}
+use Rattle.std.specs.Prelude.{Option, None, Some, Ok, Err}
 use native.Mathlib.Omega.{arith}
 use lib.ListN.{length, get_or, take, drop, length-take}
 use native.Mathlib.Numerals.{add-one}
@@ -12,7 +12,7 @@ use Rattle.base.proofs.Logic.{split, there}
 use Rattle.base.proofs.Walks.{walk_on, walk_over}
 use Rattle.network.specs.Nets.{Net}
 use Rattle.events.specs.declared.Event.{Event}
-use Rattle.ticks.specs.declared.TickAnswer.TheVariants.{Accepted, Conflict}
+use Rattle.ticks.specs.declared.TickRefusal.TheVariants.{Conflict}
 use Rattle.ticks.specs.Footings.{Footing, footing}
 use Rattle.ticks.specs.Conflicts.{clash, conflict}
 use Rattle.ticks.specs.Ticks.{partner, first_pair}
@@ -51,7 +51,7 @@ module _ (all : List Turn) (n : ℕ) where
     module _ (j : ℕ) (c : Comparing e k j) where
       module _ (d : Turn) (h : j < n) where
         one_partner : (b : Bool) → clash (footing_of e) (footing_of (get_or all j d).foot) ≡ b
-            → clash_partner (footing_of e) j (left j) ≡ cond b (some j) (clash_partner (footing_of e) (j + 1) (left (j + 1)))
+            → clash_partner (footing_of e) j (left j) ≡ cond b (Some j) (clash_partner (footing_of e) (j + 1) (left (j + 1)))
         unfolding clash_partner
         one_partner b x = ap (clash_partner (footing_of e) j) (one_less j d h c.long) ∙ rw (x, sym (add-one j))
 
@@ -63,10 +63,10 @@ module _ (all : List Turn) (n : ℕ) where
           same = sym (one_partner false x) ∙ c.same;
         }
 
-        pub partner_found : clash (footing_of e) (footing_of (get_or all j d).foot) ≡ true → clash_partner (footing_of e) k (left k) ≡ some j
+        pub partner_found : clash (footing_of e) (footing_of (get_or all j d).foot) ≡ true → clash_partner (footing_of e) k (left k) ≡ Some j
         partner_found x = sym c.same ∙ one_partner true x
 
-      pub no_partner : n ≤ j → clash_partner (footing_of e) k (left k) ≡ none
+      pub no_partner : n ≤ j → clash_partner (footing_of e) k (left k) ≡ None
       unfolding clash_partner
       no_partner h =
           let z : drop j (take n all) ≡ [] = walk_over all n j (simp length-take (omega arith)) in
@@ -81,15 +81,15 @@ module _ (all : List Turn) (n : ℕ) where
     unfolding clash_pair
     here = ap (clash_pair i) (one_less i d h s.long) ∙ rw (sym (add-one i))
 
-    pub pair_found : (j : ℕ) → its_partner ≡ some j → Conflict i j ≡ answer_by (clash_pair 0 (footings (take n all)))
+    pub pair_found : (j : ℕ) → its_partner ≡ Some j → Err (Conflict i j) ≡ answer_by (clash_pair 0 (footings (take n all)))
     pair_found j p =
-        let q : clash_pair 0 (left 0) ≡ some (Conflict i j) = sym s.same ∙ here ∙ rw p in
+        let q : clash_pair 0 (left 0) ≡ Some (Conflict i j) = sym s.same ∙ here ∙ rw p in
         sym (ap answer_by q)
 
-    pub seek_on : its_partner ≡ none → Seeking (i + 1)
+    pub seek_on : its_partner ≡ None → Seeking (i + 1)
     seek_on p = record { within = omega arith; long = s.long; same = sym (here ∙ rw p) ∙ s.same }
 
-  pub seek_done : (i : ℕ) → Seeking i → n ≤ i → Accepted ≡ answer_by (clash_pair 0 (footings (take n all)))
+  pub seek_done : (i : ℕ) → Seeking i → n ≤ i → Ok tt ≡ answer_by (clash_pair 0 (footings (take n all)))
   unfolding clash_pair
   seek_done i s h =
       let z : drop i (take n all) ≡ [] = walk_over all n i (simp length-take (omega arith)) in

@@ -2,8 +2,8 @@
 pub mod Plainly
 pub mod Names
 pub mod Matching
-pub mod Turns
 pub mod Placed
+pub mod Moved
 pub mod Packed
 pub mod Lengths
 pub mod Marks

@@ -8,21 +8,20 @@ use mathlib.Core.List.{List, [], ◌∷◌, ◌++◌}
 use borrow.Author.Tests.{eqb-true, not-true, lt-ltb}
 use lib.ListN.{length, get_or, take, drop, set, replicate, length-append, length-take, length-drop, length-set, take-append-drop, get_or-append}
 use lib.Seq.{take-append_seam, drop-append_seam, set_split}
+use Rattle.std.specs.Prelude.{Option, None, Some, position}
 use Rattle.base.specs.Lists.{all, alter}
 use Rattle.base.proofs.Logic.{and_true}
 use Rattle.base.proofs.Padded.{without, length_without, gap_pad, add_pad, set_pad, all_filled, filled_all}
 use Rattle.chassis.specs.Numbers.{agent}
 use Rattle.queue.specs.declared.Entry.{Entry}
 use Rattle.queue.specs.declared.Channel.{Channel}
-use Rattle.queue.specs.declared.Found.{Found}
-use Rattle.queue.specs.declared.Found.TheVariants as found
 use Rattle.queue.specs.declared.Change.{Change}
 use Rattle.queue.specs.declared.Change.TheVariants.{Nothing, Add, TakeOut, TakeMatching, Mark}
 use Rattle.queue.specs.Entries.{C, is_named, matches, marked, gone, marking, zero_entry, is_zero_entry}
 use Rattle.queue.specs.Packing.{live, packed, zero_channel, channel_places}
 use Rattle.queue.specs.code.Changes.{changes}
-use Rattle.queue.specs.code.Methods.{place_from, place_of, place_of_matching, added_to, removed_at, marked_at, at_place, changed_to}
-use Rattle.queue.proofs.Placed.{placed, not_placed}
+use Rattle.queue.specs.code.Methods.{place_of, place_of_matching, added_to, removed_at, marked_at, at_place, changed_to}
+use Rattle.queue.proofs.Placed.{first_at, none_at, placed, not_placed}
 
 pub live_packed : (l : List Entry) → live (packed l) ≡ l
 live_packed l = rw take-append_seam
@@ -52,7 +51,7 @@ zero_entry_is x h =
     (not-true _ r₄.1)
     (not-true _ r₅.1)
 
-channel_path : {e e' : List Entry} {n n' : ℕ} → e ≡ e' → n ≡ n' → ◌≡◌ {A = Channel} (record { entries = e; count = n }) (record { entries = e'; count = n' })
+pub channel_path : {e e' : List Entry} {n n' : ℕ} → e ≡ e' → n ≡ n' → ◌≡◌ {A = Channel} (record { entries = e; count = n }) (record { entries = e'; count = n' })
 channel_path p q = λ i. record { entries = p i; count = q i }
 
 pub packed_live : (c : Channel) → length c.entries ≡ channel_places → c.count ≤ channel_places → all is_zero_entry (drop c.count c.entries) ≡ true → c ≡ packed (live c)
@@ -83,12 +82,11 @@ marked_packed l i h = rw get_or-append (channel_path (set_pad zero_entry channel
 -- a change at the place that is found is the alteration of the first that passes
 at_packed : (p : Entry → Bool) (f : Entry → List Entry) (to : Channel → ℕ → Channel) (l : List Entry)
     → ((i : ℕ) → i < length l → to (packed l) i ≡ packed (take i l ++ (f (get_or l i zero_entry) ++ drop (suc i) l)))
-    → (o : Found) → place_from 0 p l ≡ o → at_place o (packed l) (to (packed l)) ≡ packed (alter p f l)
-at_packed p f to l h found.Nothing e = ap packed (sym (not_placed p 0 l e f))
-at_packed p f to l h (found.At j) e =
-    let r = placed p 0 l e in
-    let s : j ≡ r.k = omega (arith, r.after) in
-    rw s (h r.k r.inside ∙ ap packed (sym (r.alters f)))
+    → (o : Option ℕ) → position p l ≡ o → at_place o (packed l) (to (packed l)) ≡ packed (alter p f l)
+at_packed p f to l h None e = ap packed (sym (not_placed p f l (none_at p l e)))
+at_packed p f to l h (Some j) e =
+    let r = first_at p l e in
+    h j r.0 ∙ ap packed (sym (placed p f l j r))
 
 pub changed_packed : (ch : Change) (l : List Entry) → length l ≤ channel_places → length (changes ch l) ≤ channel_places → changed_to (packed l) ch ≡ packed (changes ch l)
 unfolding changed_to changes place_of place_of_matching

@@ -1,14 +1,16 @@
 -- The definitions of a channel, said plainly: what a name is, what stands before an entry, what fills a channel.
--- Each is also said part by part or entry by entry, as the code finds it out, so that the proofs of the code need not open the definitions.
-use Prim.Native.Nat.{ℕ, suc}
-use mathlib.Core.Path.{◌≡◌, refl, ap, sym, ◌∙◌}
-use mathlib.Core.Bool.{Bool, true, false, cond, not, ◌&&◌, and-false}
+use Prim.Native.Nat.{ℕ}
+use native.Mathlib.Numerals.{one-add}
+use mathlib.Core.Path.{◌≡◌, refl, sym, ◌∙◌}
+use mathlib.Core.Bool.{Bool, true, false, cond, not}
 use mathlib.Core.Bool as bool
 use mathlib.Core.List.{List, [], ◌∷◌, ◌++◌}
-use borrow.Author.Tests.{eqb-true, eq-eqb, ne_eqb}
+use borrow.Author.Tests.{eqb-true}
 use lib.Dec.{eqb}
+use Rattle.std.specs.Prelude.{None}
+use Rattle.std.specs.List.{count_by}
+use Rattle.std.proofs.lemmas.List.Recursion.{is_count_by}
 use Rattle.base.specs.Lists.{find, count, any, is_some}
-use Rattle.base.proofs.Cases.{and_yes}
 use Rattle.base.proofs.Logic.{split, and_true, or_false}
 use Rattle.base.proofs.Lists.{is_none}
 use Rattle.chassis.specs.Numbers.{same_agent}
@@ -16,7 +18,7 @@ use Rattle.queue.specs.declared.Transaction.{Transaction}
 use Rattle.queue.specs.declared.Entry.{Entry}
 use Rattle.queue.specs.Entries.{P, C, is_kind, same_transaction, is_named}
 use Rattle.queue.specs.Queues.{behind_P, first_C, filling}
-use Rattle.queue.specs.code.Changes.{look_by, dull}
+use Rattle.queue.specs.code.Changes.{look_by}
 
 -- a transaction is its master and its number: no other master's, whatever the target
 pub transaction_path : {t u : Transaction} → t.master.0 ≡ u.master.0 → t.number ≡ u.number → t ≡ u
@@ -37,29 +39,9 @@ named_kind : (k : ℕ) (t : Transaction) (x : Entry) → is_named k t x ≡ true
 unfolding is_named
 named_kind k t x h = (and_true (is_kind k x) (same_transaction x.transaction t) h).0
 
--- part by part: another kind or another master is another name, and where both are right the number decides
-module _ (k : ℕ) (t : Transaction) (x : Entry) where
-  pub another_kind : (x.kind ≡ k → ⊥) → false ≡ is_named k t x
-  unfolding is_named
-  another_kind h = rw (ne_eqb x.kind k h)
-
-  pub another_master : (x.transaction.master.0 ≡ t.master.0 → ⊥) → false ≡ is_named k t x
-  unfolding is_named
-  another_master h =
-      sym
-      (ap (λ b. is_kind k x && (b && eqb x.transaction.number t.number)) (ne_eqb x.transaction.master.0 t.master.0 h)
-      ∙ and-false (is_kind k x))
-
-  pub the_number_decides : x.kind ≡ k → x.transaction.master.0 ≡ t.master.0 → eqb x.transaction.number t.number ≡ is_named k t x
-  unfolding is_named
-  the_number_decides h m =
-      and_yes (is_kind k x) (same_transaction x.transaction t) (eq-eqb x.kind k h)
-      (and_yes (same_agent x.transaction.master t.master) (eqb x.transaction.number t.number) (eq-eqb x.transaction.master.0 t.master.0 m) refl)
-
 -- 'not there' is told in one way
-pub not_there_is_dull : (p : Entry → Bool) (l : List Entry) → is_some (find p l) ≡ false → look_by p l ≡ dull
-unfolding behind_P
-not_there_is_dull p l h = rw (is_none (find p l) h)
+pub not_there_is_none : (p : Entry → Bool) (l : List Entry) → is_some (find p l) ≡ false → look_by p l ≡ None
+not_there_is_none p l h = rw (is_none (find p l) h)
 
 -- from the oldest on: one that does not pass, a P, holds the one that does back where it comes later; any other is passed over
 module _ (p : Entry → Bool) (x : Entry) (l : List Entry) where
@@ -95,7 +77,7 @@ first_C_is t (u ∷ us) x vs n h =
     let r = or_false (is_named C t u) (any (is_named C t) us) n in
     split (is_kind C u) (λ y. rw (y, r.0)) (λ y. rw y (first_C_is t us x vs r.1 h))
 
--- entry by entry: one that passes counts, and no other
-pub filling_turn : (p : Entry → Bool) (x : Entry) (l : List Entry) → filling p (x ∷ l) ≡ cond (p x) (suc (filling p l)) (filling p l)
+-- how many there are of a kind, as the code counts them
+pub counted : (p : Entry → Bool) (l : List Entry) {n : ℕ} → n ≡ count_by p l → n ≡ filling p l
 unfolding count
-filling_turn p x l = refl
+counted p l e = e ∙ sym (is_count_by (filling p) p refl (λ x xs. rw one-add) l)

@@ -3,25 +3,26 @@
 #![tactic(auto)]
 
 ghost use Rattle.std.specs.Prelude.{◌<◌, ◌-◌, min, ◌≡◌, drop};
-ghost use Rattle.base.specs.Lists.{all};
-ghost use Rattle.queue.specs.Entries.{zero_entry, is_kind, is_named, marked, as_kind, is_zero_entry};
+ghost use Rattle.base.specs.Lists.{all, any, find};
+ghost use Rattle.queue.specs.Entries.{P, zero_entry, is_kind, is_named, marked, as_kind, is_zero_entry};
 ghost use Rattle.queue.specs.Queues.{filling, first_C};
 ghost use Rattle.queue.specs.Packing.{live, zero_channel, channel_places};
-ghost use Rattle.queue.specs.code.Changes.{look_of, match_of, dull};
+ghost use Rattle.queue.specs.code.Changes.{look_of, match_of};
 ghost use Rattle.queue.specs.code.Methods.{place_of, place_of_matching, added_to, removed_at, marked_at, changed_to};
 
 use chassis::Agent;
 
 // A transaction is named by its master and a number.
-#[derive(Clone, Copy)]
+#[derive(Clone, Copy, Debug, PartialEq, Eq)]
 pub struct Transaction {
     pub master: Agent,
     pub number: u16,
 }
 
-// `kind` is 1 (P posted), 2 (R request) or 3 (C completion); 0 is an unused place. (The transaction stands first, so that
-// an entry is 8 bytes.)
-#[derive(Clone, Copy)]
+// `kind` is 1 (P posted), 2 (R request) or 3 (C completion); 0 is an unused place. It stays a number, and no enum: a state
+// that a caller hands in may hold any byte here, and is_sound answers for any state (ground 16). (The transaction stands
+// first, so that an entry is 8 bytes.)
+#[derive(Clone, Copy, Debug, PartialEq, Eq)]
 pub struct Entry {
     pub transaction: Transaction,
     pub kind: u8,
@@ -35,32 +36,23 @@ pub const CHANNEL_PLACES: usize = 24;
 
 const LAST_PLACE: usize = CHANNEL_PLACES - 1;
 
-// Its entries, oldest first, and their number.
-#[derive(Clone, Copy)]
+// Its entries, oldest first, and their number. (Memory is fixed, and a state that is not sound may count more than there are: ground 16.)
+#[derive(Clone, Copy, Debug, PartialEq, Eq)]
 pub struct Channel {
     pub entries: [Entry; CHANNEL_PLACES],
     pub count: usize,
 }
 
-// The place of an entry in its channel.
-#[derive(Clone, Copy)]
-pub enum Found {
-    At(usize),
-    Nothing,
-}
-
-// What a channel shows of the oldest entry of a kind and transaction: whether it is there, whether an older P stands
-// before it, and the entry itself (zero where it is not there).
-#[derive(Clone, Copy)]
+// What a channel shows of the oldest entry of a kind and transaction: whether an older P stands before it, and the entry.
+#[derive(Clone, Copy, Debug, PartialEq, Eq)]
 pub struct Look {
-    pub found: bool,
     pub behind: bool,
     pub entry: Entry,
 }
 
 // What an event does to one channel. The entry that is taken out or marked is named by its kind and transaction; or it is
 // the C that matches a request.
-#[derive(Clone, Copy)]
+#[derive(Clone, Copy, Debug, PartialEq, Eq)]
 pub enum Change {
     Nothing,
     Add(Entry),
@@ -98,18 +90,14 @@ impl Entry {
         self.kind == kind
     }
 
+    #[tactic(auto, unfolding(crate::specs::Entries::is_named))]
     pub fn is_named(self, kind: u8, t: Transaction) -> bool
         ensures { result ≡ is_named kind t self }
     {
-        if self.kind != kind {
-            return false;
-        }
-        if self.transaction.master.0 != t.master.0 {
-            return false;
-        }
-        self.transaction.number == t.number
+        self.kind == kind && self.transaction == t
     }
 
+    #[tactic(auto, unfolding(crate::specs::Entries::marked))]
     pub fn marked(mut self) -> Entry
         ensures { result ≡ marked self }
     {
@@ -117,6 +105,7 @@ impl Entry {
         self
     }
 
+    #[tactic(auto, unfolding(crate::specs::Entries::as_kind))]
     pub fn as_kind(mut self, kind: u8) -> Entry
         ensures { result ≡ as_kind kind self }
     {
@@ -125,184 +114,192 @@ impl Entry {
         self
     }
 
+    #[tactic(auto, unfolding(crate::specs::Entries::is_zero_entry))]
     pub fn is_zero(self) -> bool
         ensures { result ≡ is_zero_entry self }
     {
-        if self.transaction.master.0 != 0 {
-            return false;
-        }
-        if self.transaction.number != 0 {
-            return false;
-        }
-        if self.kind != 0 {
-            return false;
-        }
-        if self.target.0 != 0 {
-            return false;
-        }
-        if self.write {
-            return false;
-        }
-        !self.committed
+        self == Entry::none()
     }
 }
 
-impl Look {
-    // What is told of an entry that is not there.
-    pub fn dull() -> Look
-        ensures { result ≡ dull }
-    {
-        Look {
-            found: false,
-            behind: false,
-            entry: Entry::none(),
-        }
-    }
-}
-
-// How many places a walk goes through: a channel that is not sound may claim more entries than it has places.
+// How many places are gone through: a channel that is not sound may claim more entries than it has places.
 pub fn places(count: usize) -> usize
     ensures { result ≡ min count channel_places }
 {
-    if count < CHANNEL_PLACES {
-        count
-    } else {
-        CHANNEL_PLACES
-    }
+    count.min(CHANNEL_PLACES)
 }
 
 // A channel that is not sound may hold an entry and count none.
 pub fn one_less(n: usize) -> usize
     ensures { result ≡ n - 1 }
 {
-    if n > 0 { n - 1 } else { 0 }
+    n.saturating_sub(1)
+}
+
+// Whether one of them is a P.
+#[tactic(auto, unfolding(base::specs::Lists::any))]
+fn any_p(entries: &[Entry]) -> bool
+    ensures { result ≡ any (is_kind P) entries.now }
+{
+    entries.iter().any(|x| x.is_kind(P))
 }
 
 impl Channel {
     pub fn empty() -> Channel
         ensures { result ≡ zero_channel }
     {
-        let z = Entry::none();
         Channel {
-            entries: [z; CHANNEL_PLACES],
+            entries: [Entry::none(); CHANNEL_PLACES],
             count: 0,
         }
     }
 
-    // An event that names an entry means the oldest one of that kind and transaction.
-    pub fn found(self, kind: u8, t: Transaction) -> Found
-        ensures { result ≡ place_of kind t self }
+    // The entries that it holds.
+    pub fn live(&self) -> &[Entry]
+        ensures { result.now ≡ live self.now }
     {
-        let n = places(self.count);
-        let mut i: usize = 0;
-        while i < n {
-            let x = self.entries[i];
-            if x.is_named(kind, t) {
-                return Found::At(i);
-            }
-            i += 1;
-        }
-        Found::Nothing
+        &self.entries[..places(self.count)]
     }
 
-    // One walk: a P that is passed before the entry is older than it.
-    pub fn looked(self, kind: u8, t: Transaction) -> Look
-        ensures { result ≡ look_of kind t (live self) }
+    // An event that names an entry means the oldest one of that kind and transaction.
+    #[tactic(auto, unfolding(crate::specs::code::Methods::place_of))]
+    pub fn found(&self, kind: u8, t: Transaction) -> Option<usize>
+        ensures { result ≡ place_of kind t self.now }
     {
-        let n = places(self.count);
-        let mut behind = false;
-        let mut i: usize = 0;
-        while i < n {
-            let x = self.entries[i];
-            if x.is_named(kind, t) {
-                return Look {
-                    found: true,
-                    behind: behind,
-                    entry: x,
-                };
-            }
-            if x.is_kind(P) {
-                behind = true;
-            }
-            i += 1;
-        }
-        Look::dull()
+        self.live().iter().position(|x| x.is_named(kind, t))
+    }
+
+    // A P that stands before the entry is older than it.
+    #[tactic(auto, using(crate::proofs::Placed::found_inside, crate::proofs::Placed::older_are, crate::proofs::Placed::look_there, crate::proofs::Placed::look_nowhere))]
+    pub fn looked(&self, kind: u8, t: Transaction) -> Option<Look>
+        ensures { result ≡ look_of kind t (live self.now) }
+    {
+        let entries = self.live();
+        let i = self.found(kind, t)?;
+        Some(Look {
+            behind: any_p(&entries[..i]),
+            entry: entries[i],
+        })
     }
 
     // The oldest one that matches a request. It is found by originating master and number, so by the request's own name.
-    pub fn matching(self, kind: u8, request: Entry) -> Look
-        ensures { result ≡ match_of kind request (live self) }
+    #[tactic(auto, unfolding(crate::specs::code::Changes::look_of, crate::specs::code::Changes::match_of, crate::specs::Entries::is_named, crate::specs::Entries::matches))]
+    pub fn matching(&self, kind: u8, request: Entry) -> Option<Look>
+        ensures { result ≡ match_of kind request (live self.now) }
     {
         self.looked(kind, request.transaction)
     }
 
     // Its place.
-    pub fn found_matching(self, kind: u8, request: Entry) -> Found
-        ensures { result ≡ place_of_matching kind request self }
+    #[tactic(auto, unfolding(crate::specs::code::Methods::place_of, crate::specs::code::Methods::place_of_matching, crate::specs::Entries::is_named, crate::specs::Entries::matches))]
+    pub fn found_matching(&self, kind: u8, request: Entry) -> Option<usize>
+        ensures { result ≡ place_of_matching kind request self.now }
     {
         self.found(kind, request.transaction)
     }
 
     // Each kind is counted by itself.
-    pub fn filling(self, kind: u8) -> usize
-        ensures { result ≡ filling (is_kind kind) (live self) }
+    #[tactic(auto, using(crate::proofs::Plainly::counted))]
+    pub fn filling(&self, kind: u8) -> usize
+        ensures { result ≡ filling (is_kind kind) (live self.now) }
     {
-        let n = places(self.count);
-        let mut k: usize = 0;
-        let mut i: usize = 0;
-        while i < n {
-            let x = self.entries[i];
-            if x.is_kind(kind) {
-                k += 1;
-            }
-            i += 1;
-        }
-        k
+        self.live().iter().filter(|x| x.is_kind(kind)).count()
+    }
+
+    // The oldest one of a kind.
+    #[tactic(auto, unfolding(base::specs::Lists::find))]
+    fn oldest(&self, kind: u8) -> Option<Entry>
+        ensures { result ≡ find (is_kind kind) (live self.now) }
+    {
+        self.live().iter().copied().find(|x| x.is_kind(kind))
     }
 
     // It is the oldest C of all.
-    pub fn first_c(self, t: Transaction) -> bool
-        ensures { result ≡ first_C t (live self) }
+    #[tactic(auto, unfolding(crate::specs::Queues::first_C))]
+    pub fn first_c(&self, t: Transaction) -> bool
+        ensures { result ≡ first_C t (live self.now) }
     {
-        let n = places(self.count);
-        let mut i: usize = 0;
-        while i < n {
-            let x = self.entries[i];
-            if x.is_kind(C) {
-                return x.is_named(C, t);
-            }
-            i += 1;
-        }
-        false
+        self.oldest(C).is_some_and(|x| x.is_named(C, t))
+    }
+
+    #[tactic(auto, unfolding(base::specs::Lists::all))]
+    pub fn unused_are_zero(&self) -> bool
+        ensures { result ≡ all is_zero_entry (drop self.now.count self.now.entries) }
+    {
+        self.entries.iter().skip(self.count).all(|x| x.is_zero())
     }
 
     // Behind all others. A channel that has no place left stays as it is, so that no caller has to show that there is room.
-    pub fn added(mut self, x: Entry) -> Channel
-        ensures { result ≡ added_to self x }
+    #[tactic(auto, unfolding(crate::specs::code::Methods::added_to))]
+    fn add(&mut self, x: Entry)
+        ensures { self.new ≡ added_to self.old x }
     {
         let n = self.count;
         if n < CHANNEL_PLACES {
             self.entries[n] = x;
             self.count = n + 1;
         }
-        self
     }
 
     // The gap goes to the end of the array and not of the live entries: so the unused places need not be known to be zero.
+    #[tactic(auto, unfolding(crate::specs::code::Methods::removed_at))]
+    fn remove(&mut self, i: usize)
+        requires { i < channel_places }
+        ensures { self.new ≡ removed_at self.old i }
+    {
+        self.entries.copy_within(i + 1.., i);
+        self.entries[LAST_PLACE] = Entry::none();
+        self.count = one_less(self.count);
+    }
+
+    #[tactic(auto, unfolding(crate::specs::code::Methods::marked_at))]
+    fn mark(&mut self, i: usize)
+        requires { i < channel_places }
+        ensures { self.new ≡ marked_at self.old i }
+    {
+        self.entries[i] = self.entries[i].marked();
+    }
+
+    // What an event does to it, where it lies: the only code that changes a channel.
+    #[tactic(auto, using(base::proofs::Walks::length_mapped, crate::proofs::Placed::found_bound, crate::proofs::Placed::matching_bound), unfolding(crate::specs::code::Methods::changed_to))]
+    pub fn change(&mut self, ch: Change)
+        ensures { self.new ≡ changed_to self.old ch }
+    {
+        match ch {
+            Change::Nothing => {}
+            Change::Add(x) => self.add(x),
+            Change::TakeOut(x) => {
+                if let Some(i) = self.found(x.kind, x.transaction) {
+                    self.remove(i);
+                }
+            }
+            Change::TakeMatching(r) => {
+                if let Some(i) = self.found_matching(C, r) {
+                    self.remove(i);
+                }
+            }
+            Change::Mark(x) => {
+                if let Some(i) = self.found(x.kind, x.transaction) {
+                    self.mark(i);
+                }
+            }
+        }
+    }
+
+    // The same by value: the channel goes in, and the next one comes out.
+
+    pub fn added(mut self, x: Entry) -> Channel
+        ensures { result ≡ added_to self x }
+    {
+        self.add(x);
+        self
+    }
+
     pub fn removed(mut self, i: usize) -> Channel
         requires { i < channel_places }
         ensures { result ≡ removed_at self i }
     {
-        let n = self.count;
-        let mut gap = i;
-        while gap < LAST_PLACE {
-            let x = self.entries[gap + 1];
-            self.entries[gap] = x;
-            gap += 1;
-        }
-        let z = Entry::none();
-        self.entries[LAST_PLACE] = z;
-        self.count = one_less(n);
+        self.remove(i);
         self
     }
 
@@ -310,54 +307,14 @@ impl Channel {
         requires { i < channel_places }
         ensures { result ≡ marked_at self i }
     {
-        let x = self.entries[i];
-        let y = x.marked();
-        self.entries[i] = y;
+        self.mark(i);
         self
     }
 
-    pub fn changed(self, ch: Change) -> Channel
+    pub fn changed(mut self, ch: Change) -> Channel
         ensures { result ≡ changed_to self ch }
     {
-        match ch {
-            Change::Nothing => self,
-            Change::Add(x) => self.added(x),
-            Change::TakeOut(x) => {
-                let f = self.found(x.kind, x.transaction);
-                match f {
-                    Found::At(i) => self.removed(i),
-                    Found::Nothing => self,
-                }
-            }
-            Change::TakeMatching(r) => {
-                let f = self.found_matching(C, r);
-                match f {
-                    Found::At(i) => self.removed(i),
-                    Found::Nothing => self,
-                }
-            }
-            Change::Mark(x) => {
-                let f = self.found(x.kind, x.transaction);
-                match f {
-                    Found::At(i) => self.marked_at(i),
-                    Found::Nothing => self,
-                }
-            }
-        }
-    }
-
-    pub fn unused_are_zero(self) -> bool
-        ensures { result ≡ all is_zero_entry (drop self.count self.entries) }
-    {
-        let mut i = self.count;
-        while i < CHANNEL_PLACES {
-            let x = self.entries[i];
-            let zero = x.is_zero();
-            if !zero {
-                return false;
-            }
-            i += 1;
-        }
-        true
+        self.change(ch);
+        self
     }
 }

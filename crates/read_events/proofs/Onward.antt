@@ -1,5 +1,6 @@
 -- Where a record leads on a table that passes: the next place is the target or a bridge channel, and every channel that is looked at
 -- is one of those that a state has.
+use Rattle.std.specs.Prelude.{Option, None, Some}
 use Prim.Native.Nat.{◌<◌}
 use mathlib.Core.Path.{◌≡◌, refl}
 use mathlib.Core.Bool.{true, false}
@@ -50,11 +51,9 @@ module _ (T : Table) (ok : table_passes T ≡ true) where
       by_place (next_place T N a) (λ e. rw e tt)
       (λ X e. rw e (let r = next T ok N a X h e in (r.there, r.no_master)))
 
-  pub told_onward : (e : Event) (N : Chan) (l : Look) → has_chan T N ≡ true → Onward (next_told T e N l)
-  told_onward e N l h =
-      split (account e).moves
-      (λ m. split l.found (λ f. rw (m, f) (next_onward N l.entry.target h)) (λ f. rw (m, f) tt))
-      (λ m. rw m tt)
+  pub told_onward : (e : Event) (N : Chan) (l : Option Look) → has_chan T N ≡ true → Onward (next_told T e N l)
+  told_onward e N None h = split (account e).moves (λ m. rw m tt) (λ m. rw m tt)
+  told_onward e N (Some l) h = split (account e).moves (λ m. rw m (next_onward N l.entry.target h)) (λ m. rw m tt)
 
   pub onward_small : (n : NextPlace) → Onward n → small n
   onward_small Target o = tt

@@ -1,23 +1,25 @@
 -- What is read off a record before any channel is looked at, and what is then looked at.
-use Rattle.std.specs.Prelude.{ℕ, Bool, false, cond, ◌&&◌}
+use Rattle.std.specs.Prelude.{Bool, false, cond, ◌&&◌, Some, None, Option, Result, Ok, Err}
+use Rattle.base.specs.declared.Refusal.{Refusal}
+use Rattle.base.specs.declared.Refusal.TheVariants.{UnfitRecord, NotInTable, TargetIsMaster}
 use Rattle.chassis.specs.declared.Agent.{Agent}
 use Rattle.chassis.specs.declared.Chan.{Chan}
 use Rattle.chassis.specs.declared.Table.{Table}
 use Rattle.chassis.specs.declared.NextPlace.{NextPlace}
 use Rattle.chassis.specs.declared.NextPlace.TheVariants.{Target, Through}
-use Rattle.chassis.specs.Numbers.{agent, chan, same_agent}
+use Rattle.chassis.specs.Numbers.{same_agent}
 use Rattle.chassis.specs.Channels.{has_agent, has_chan, is_master, master_channel, opposite}
 use Rattle.queue.specs.declared.Transaction.{Transaction}
 use Rattle.queue.specs.declared.Entry.{Entry}
 use Rattle.queue.specs.declared.Look.{Look}
 use Rattle.queue.specs.Entries.{P, R, C}
 use Rattle.queue.specs.Queues.{stands, has_matching}
-use Rattle.queue.specs.code.Changes.{look_of, match_of, dull}
+use Rattle.queue.specs.code.Changes.{look_of, match_of}
 use Rattle.network.specs.Nets.{Net, waiting, full}
+use Rattle.events.specs.Records.{Decoded}
+use Rattle.events.specs.declared.Account.{Account}
 use Rattle.events.specs.declared.Event.{Event}
 use Rattle.events.specs.declared.Event.TheVariants.{BeginPosted, BeginRead, BeginWrite, Commit, Post, Latch, Complete, DropRequest, DropCompletion}
-use Rattle.events.specs.declared.Decoded.{Decoded}
-use Rattle.events.specs.declared.Decoded.TheVariants.{Known, Unfit}
 use Rattle.read_events.specs.declared.Frame.{Frame}
 use Rattle.read_events.specs.declared.Sight.{Sight}
 use Rattle.events.specs.Tests.{ahead, entry_at, full_ahead, answer_full, is_channel_with, is_oldest_C}
@@ -25,44 +27,43 @@ use Rattle.events.specs.Accounts.{account}
 
 -- ---- the frame
 
-abbrev pub no_event : Event
-no_event = BeginPosted (agent 0) (agent 0)
-
-abbrev pub refused_frame : ℕ → Frame
-refused_frame n = record { refusal = n; event = no_event; at = chan 0; master = agent 0 }
-
 -- 2, 3
-abbrev pub begin_frame : Table → Event → Agent → Agent → Frame
+abbrev pub begin_frame : Table → Event → Agent → Agent → Result Frame Refusal
 begin_frame T e m a =
     cond (has_agent T m)
     (cond (has_agent T a)
-    (cond (same_agent m a) (refused_frame 3)
-    (record { refusal = 0; event = e; at = master_channel m; master = m }))
-    (refused_frame 2))
-    (refused_frame 2)
+    (cond (same_agent m a) (Err TargetIsMaster)
+    (Ok (record { event = e; at = master_channel m; master = m })))
+    (Err NotInTable))
+    (Err NotInTable)
 
 -- 2
-abbrev pub named_frame : Table → Event → Chan → Transaction → Frame
+abbrev pub named_frame : Table → Event → Chan → Transaction → Result Frame Refusal
 named_frame T e N t =
     cond (has_chan T N)
-    (cond (has_agent T t.master) (record { refusal = 0; event = e; at = N; master = t.master }) (refused_frame 2))
-    (refused_frame 2)
+    (cond (has_agent T t.master) (Ok (record { event = e; at = N; master = t.master })) (Err NotInTable))
+    (Err NotInTable)
 
-abbrev pub event_frame : Table → Event → Frame
-event_frame T e =
-    cond (account e).begins
-    (begin_frame T e (account e).name.master (account e).target)
-    (named_frame T e (account e).channel (account e).name)
+abbrev pub frame_for : Table → Event → Account → Option Agent → Result Frame Refusal
+frame_for T e x (Some a) = begin_frame T e x.name.master a
+frame_for T e x None = named_frame T e x.channel x.name
+
+abbrev pub event_frame : Table → Event → Result Frame Refusal
+event_frame T e = frame_for T e (account e) (account e).target
+
+-- the frame of an event whose numbers are all there
+abbrev pub own_frame : Event → Frame
+own_frame e = record { event = e; at = (account e).channel; master = (account e).name.master }
 
 -- 1
-abbrev pub frame : Table → Decoded → Frame
-frame T Unfit = refused_frame 1
-frame T (Known e) = event_frame T e
+abbrev pub frame : Table → Decoded → Result Frame Refusal
+frame T None = Err UnfitRecord
+frame T (Some e) = event_frame T e
 
 -- ---- what is seen
 
 -- what the named channel shows
-unfoldable pub look_at : Net → Event → Look
+unfoldable pub look_at : Net → Event → Option Look
 look_at s e = look_of (account e).kind (account e).name (waiting s (account e).channel)
 
 -- the next place, where the kind asks for it and the entry is there
@@ -84,10 +85,10 @@ back_or T N = cond (is_master T N) N (opposite T N)
 -- ---- what a judge is told
 
 abbrev pub sees_full : Bool → Sight
-sees_full b = record { full = b; waits = false; answer = dull; oldest = false }
+sees_full b = record { full = b; waits = false; answer = None; oldest = false }
 
-abbrev pub look_back : Net → Entry → NextPlace → Look
-look_back s r Target = dull
+abbrev pub look_back : Net → Entry → NextPlace → Option Look
+look_back s r Target = None
 look_back s r (Through X) = match_of C r (waiting s (opposite s.table X))
 
 unfoldable pub sight : Net → Event → Sight
@@ -109,4 +110,4 @@ sight s (Complete N t) = record {
   oldest = false;
 }
 sight s (DropRequest N t) = sees_full false
-sight s (DropCompletion N t) = record { full = false; waits = false; answer = dull; oldest = is_oldest_C s N t }
+sight s (DropCompletion N t) = record { full = false; waits = false; answer = None; oldest = is_oldest_C s N t }

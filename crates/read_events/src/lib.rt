@@ -9,11 +9,9 @@ use chassis::{Agent, Chan};
 use events::Event;
 use queue::Look;
 
-// A record with its numbers looked up in the table: refused with 1, 2 or 3, or an event whose channel and master are there.
-// A refused one points to channel 0 and agent 0, which every table has.
-#[derive(Clone, Copy)]
+// An event whose numbers were looked up in the table: its channel and its master are there.
+#[derive(Clone, Copy, Debug, PartialEq, Eq)]
 pub struct Frame {
-    pub refusal: u8,
     pub event: Event,
     pub at: Chan,
     pub master: Agent,
@@ -22,10 +20,10 @@ pub struct Frame {
 // What a judge is told of the other channels, as far as the event's kind asks it: whether the receiving channel is at its
 // limit (5), whether N1 holds the transaction's R (10), what the opposite of N1 shows of its C (10, 12, 14), whether the C is
 // the oldest (13).
-#[derive(Clone, Copy)]
+#[derive(Clone, Copy, Debug, PartialEq, Eq)]
 pub struct Sight {
     pub full: bool,
     pub waits: bool,
-    pub answer: Look,
+    pub answer: Option<Look>,
     pub oldest: bool,
 }

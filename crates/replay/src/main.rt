@@ -2,9 +2,7 @@
 
 #![tactic(auto)]
 
-ghost use Rattle.std.specs.Prelude.{◌≤◌, IfOk};
-
-use play_inputs::{Log, Played, play_input};
+use play_inputs::{Log, play_input};
 use std::fs::File;
 use std::io::Sink;
 use std::rt::Files;
@@ -20,56 +18,33 @@ fn within_bounds(name: &str) -> &str {
     if name.len() > MOST_NAME { "" } else { name }
 }
 
-// Writes a stream's name.
-fn print_name(rt: &impl Print, name: &str) -> io::Result<()> {
-    rt.print(name)
-}
-
 // Opens the file that a name and an ending name.
-fn open_named<R: Files + Alloc>(rt: &R, name: &str, log: bool) -> io::Result<R::File> {
-    let path = if log {
-        format!(in rt.alloc(); "{name}.out")?
-    } else {
-        format!(in rt.alloc(); "{name}.in")?
-    };
+fn open_named<R: Files + Alloc>(rt: &R, name: &str, ending: &str) -> io::Result<R::File> {
+    let path = format!(in rt.alloc(); "{name}.{ending}")?;
     File::open(rt, path)
 }
 
-// A stream that cannot be read to its end differs too.
-fn is_done(played: Played) -> bool {
-    match played {
-        Played::Done => true,
-        _ => false,
-    }
-}
-
-// Plays a stream and compares its log. One without files differs.
+// Plays a stream and compares its log. One without files differs, and so does one that cannot be read to its end.
 fn is_same<R: Files + Alloc>(rt: &R, name: &str) -> bool {
     if name.len() > MOST_OPENED {
         return false;
     }
-    let Ok(mut input) = open_named(rt, name, false) else {
+    let Ok(mut input) = open_named(rt, name, "in") else {
         return false;
     };
-    let Ok(stored) = open_named(rt, name, true) else {
+    let Ok(stored) = open_named(rt, name, "out") else {
         return false;
     };
     let mut log: Log<Sink, R::File> = Log::Compared(stored);
-    is_done(play_input(&mut input, &mut log))
+    play_input(&mut input, &mut log).is_ok()
 }
 
-// A stream with its line; 1 where it differs.
-fn replay<R: Files + Alloc + Print>(rt: &R, name: &str) -> io::Result<u64>
-    ensures { IfOk result (λ n. n ≤ 1) }
-{
+// A stream with its line; whether it differs.
+fn differs<R: Files + Alloc + Print>(rt: &R, name: &str) -> io::Result<bool> {
     let same = is_same(rt, name);
-    print_name(rt, name)?;
-    if same {
-        rt.println(" same")?;
-        return Ok(0);
-    }
-    rt.println(" differs")?;
-    Ok(1)
+    let word = if same { "same" } else { "differs" };
+    println!(rt; "{name} {word}")?;
+    Ok(!same)
 }
 
 // The last line.
@@ -84,7 +59,9 @@ fn main(rt: HostRuntime) -> io::Result<()> {
     let streams = names.len() as u64;
     let mut differ: u64 = 0;
     for name in names {
-        differ += replay(&rt, within_bounds(name.as_str()))?;
+        if differs(&rt, within_bounds(name.as_str()))? {
+            differ += 1;
+        }
     }
     print_sum(&rt, streams, differ)
 }

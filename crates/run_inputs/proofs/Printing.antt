@@ -1,11 +1,13 @@
 -- Stores into a buffer that may be too short: what falls behind its end is not stored, so the buffer holds the text's beginning.
-use Prim.Native.Nat.{ℕ, suc, ◌+◌, ◌<◌, ◌≤◌}
-use mathlib.Core.Path.{◌≡◌, refl, ap, ◌∙◌}
+use Prim.Native.Nat.{ℕ, zero, suc, ◌+◌, ◌-◌, ◌<◌, ◌≤◌, min}
+use mathlib.Core.Path.{◌≡◌, refl, ap, sym, ◌∙◌}
 use mathlib.Core.List.{List, [], ◌∷◌, ◌++◌}
 use native.Mathlib.Omega.{arith}
-use lib.ListN.{length, get_or, take, drop, set, drop_of_length-le}
-use lib.Seq.{sets, set_out, sets-eq, take-append_seam}
-use Rattle.base.proofs.Walks.{rest_on}
+use borrow.Rule.Slice.PartMut.{put_mid}
+use lib.ListN.{length, take, drop, set, length-take, length-drop, length-set}
+use lib.Seq.{sets, set_out, sets-eq, take-append_seam, drop-drop}
+use Rattle.std.proofs.lemmas.List.{take_min, drop_min}
+use Rattle.lines.proofs.Texts.{written_part}
 use Rattle.lines.specs.code.Writing.{Written}
 use Rattle.run_inputs.specs.Printed.{printed_into}
 
@@ -32,17 +34,27 @@ written_read {o} {p} {xs} {r} w h =
     let s : sets o 0 xs ≡ xs ++ drop (length xs) o = rw z at (sets-eq xs o 0 (omega arith)) in
     rw (w.behind, w.stored, z, s, take-append_seam)
 
--- ---- the loop that stores
+-- ---- a part that is cut off where the buffer ends
 
--- byte i of the text is stored, and the rest is left
-pub stored_on : (o text : List ℕ) (at i : ℕ) → i < length text → sets (set o (at + i) (get_or text i 0)) (at + (i + 1)) (drop (i + 1) text) ≡ sets o (at + i) (drop i text)
-stored_on o text at i h =
-    let e : at + (i + 1) ≡ suc (at + i) = omega arith in
-    rw (e, rest_on text i 0 h)
+sets_part : (o xs : List ℕ) (at n : ℕ) → length o ≤ at + n → sets o at (take n xs) ≡ sets o at xs
+sets_part o [] at zero h = refl
+sets_part o [] at (suc n) h = refl
+sets_part o (x ∷ xs) at zero h = sym (sets_out o at (x ∷ xs) (omega arith))
+sets_part o (x ∷ xs) at (suc n) h = sets_part (set o at x) xs (suc at) n (simp length-set (omega arith))
 
-pub stored_none : (o text : List ℕ) (at : ℕ) → sets o (at + 0) (drop 0 text) ≡ sets o at text
-stored_none o text at = let e : at + 0 ≡ at = omega arith in rw e
+-- as much of the text as there is room for
+pub part_put : (o text part : List ℕ) (at n : ℕ) → at < length o → n ≡ min (length o - at) (length text) → part ≡ take n text → put_mid at (at + n - at) o part ≡ sets o at text
+part_put o text part at n h m p =
+    let l : length (take n text) ≡ n = simp length-take (omega arith) in
+    let t : take n text ≡ take (length o - at) text = ap (λ (k : ℕ). take k text) m ∙ take_min (length o - at) text in
+    (rw l at (written_part o at (take n text) part p (omega arith)).stored) ∙ ap (sets o at) t ∙ sets_part o text at (length o - at) (omega arith)
 
--- the text is at its end, or the buffer is
-pub stored_all : (o text : List ℕ) (at i : ℕ) → length text ≤ i → sets o (at + i) (drop i text) ≡ o
-stored_all o text at i h = rw drop_of_length-le
+-- ---- the next 512 bytes of an input, or as many as there are
+
+pub part_end : (l : List ℕ) (at e : ℕ) → at ≤ length l → e ≡ min (at + 512) (length l) → take (e - at) (drop at l) ≡ take 512 (drop at l)
+part_end l at e h m =
+    let n : e - at ≡ min 512 (length (drop at l)) = rw length-drop (omega arith) in
+    ap (λ (k : ℕ). take k (drop at l)) n ∙ take_min 512 (drop at l)
+
+pub rest_end : (l : List ℕ) (at : ℕ) → drop (min (at + 512) (length l)) l ≡ drop 512 (drop at l)
+rest_end l at = drop_min (at + 512) l ∙ sym (drop-drop 512 at l)

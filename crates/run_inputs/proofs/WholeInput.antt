@@ -4,20 +4,20 @@ use Prim.Native.Nat.{ℕ, zero, suc}
 use mathlib.Core.Path.{◌≡◌, refl, ap}
 use mathlib.Core.Bool.{true, false, cond}
 use mathlib.Core.List.{List, [], ◌∷◌, ◌++◌}
-use mathlib.Core.Option.{none, some}
+use Rattle.std.specs.Prelude.{None, Some}
 use native.Mathlib.Omega.{arith}
 use borrow.Author.Tests.{ne_eqb}
 use lib.ListN.{length, take, drop, length-take}
 use lib.Dec.{eqb}
+use Rattle.base.specs.declared.Refusal.{Refusal}
 use Rattle.base.specs.Grounds.{refusal}
 use Rattle.base.proofs.Logic.{split, there}
 use Rattle.network.specs.declared.State.{State}
 use Rattle.network.specs.Opening.{zero_state}
-use Rattle.blocks.specs.Blocks.{block_kind, block_grounds}
-use Rattle.blocks.specs.Answers.{accepted_as, block_answer}
+use Rattle.blocks.specs.Blocks.{block_grounds}
+use Rattle.blocks.specs.Answers.{block_answer}
 use Rattle.lines.specs.Lines.{Line, texts}
 use Rattle.logs.specs.Logs.{block_played, blocks_played, cut, input_blocks, run, log}
-use Rattle.logs.specs.code.Runs.{goes_on}
 use Rattle.logs.proofs.Running.{run_is_played}
 use Rattle.run_inputs.specs.Inputs.{is_end, next_goes_on, next_state, next_lines}
 
@@ -44,21 +44,17 @@ first_is_block : (b : List ℕ) → is_end 0 b ≡ false
 unfolding is_end
 first_is_block b = refl
 
--- an accepted block goes on
-goes : (b : List ℕ) → goes_on (accepted_as b) ≡ true
-goes b = split (eqb (block_kind b) 1) (λ t. rw t) (λ f. split (eqb (block_kind b) 2) (λ t. rw (f, t)) (λ g. rw (f, g)))
-
 module _ (place : ℕ) (s : State) (b : List ℕ) (bs : List (List ℕ)) (here : is_end place b ≡ false)
     (rest : (z : State) → turns (suc place) z bs ≡ (blocks_played (suc place) z bs).lines) where
-  refused_turn : (n : ℕ) → refusal (block_grounds place b) ≡ some n → turns place s (b ∷ bs) ≡ (blocks_played place s (b ∷ bs)).lines
+  refused_turn : (n : Refusal) → refusal (block_grounds place b) ≡ Some n → turns place s (b ∷ bs) ≡ (blocks_played place s (b ∷ bs)).lines
   unfolding turns blocks_played block_answer
   refused_turn n h = rw (here, h, blocks_played)
 
-  played_turn : refusal (block_grounds place b) ≡ none → turns place s (b ∷ bs) ≡ (blocks_played place s (b ∷ bs)).lines
+  played_turn : refusal (block_grounds place b) ≡ None → turns place s (b ∷ bs) ≡ (blocks_played place s (b ∷ bs)).lines
   unfolding turns blocks_played block_answer
   played_turn h =
       let p = run_is_played place s b h in
-      rw (here, h, blocks_played, goes b, p.0, p.1) (ap (λ (l : List Line). (block_played place s b).lines ++ l) (rest (block_played place s b).state))
+      rw (here, h, blocks_played, p.0, p.1) (ap (λ (l : List Line). (block_played place s b).lines ++ l) (rest (block_played place s b).state))
 
   one_turn : turns place s (b ∷ bs) ≡ (blocks_played place s (b ∷ bs)).lines
   one_turn = there (refusal (block_grounds place b)) played_turn (λ n h. refused_turn n h)

@@ -6,7 +6,7 @@ use mathlib.Core.Path.{◌≡◌, refl, sym, ap, subst, subst⁻¹, ◌∙◌}
 use mathlib.Core.Logic.{inl, inr}
 use mathlib.Core.List.{List, [], ◌∷◌, ◌++◌}
 use mathlib.Core.Bool.{Bool, true, false, not, ◌&&◌}
-use mathlib.Core.Option.{Option, none, some}
+use Rattle.std.specs.Prelude.{Option, None, Some}
 use borrow.Author.Tests.{eq-eqb, not-false}
 use Rattle.base.specs.Lists.{find, passes, or_else}
 use Rattle.base.specs.Grounds.{Ground}
@@ -45,7 +45,7 @@ use Rattle.ticks.proofs.Pieces.{P≢C, R≢C, bringing_deeds, Brings, bringing, 
 
 module _ (s : Net) (N : Chan) (t : Transaction) where
   -- 2 and 6 of another state, with the same table, where the entry is there
-  named_clear : (k : ℕ) (u : Net) (x : Entry) (more less : List Ground) → u.table ≡ s.table → oldest k t (waiting u N) ≡ some x
+  named_clear : (k : ℕ) (u : Net) (x : Entry) (more less : List Ground) → u.table ≡ s.table → oldest k t (waiting u N) ≡ Some x
       → Clear (named_grounds s k N t more) → Clear less → Clear (named_grounds u k N t less)
   unfolding named_grounds
   named_clear k u x more less q h c d =
@@ -66,22 +66,22 @@ module _ (s : Net) (N : Chan) (t : Transaction) where
   unfolding named_grounds
   named_six k more c = c.1.0
 
-  named_found : (k : ℕ) (more : List Ground) → Clear (named_grounds s k N t more) → (x : Entry) × (oldest k t (waiting s N) ≡ some x)
+  named_found : (k : ℕ) (more : List Ground) → Clear (named_grounds s k N t more) → (x : Entry) × (oldest k t (waiting s N) ≡ Some x)
   named_found k more c = is_there (oldest k t (waiting s N)) (not-false _ (named_six k more c))
 
   -- the next place is the entry's
-  ahead_is : (k : ℕ) (u : Net) (x : Entry) → u.table ≡ s.table → oldest k t (waiting u N) ≡ some x → ahead u k N t ≡ next_place s.table N x.target
+  ahead_is : (k : ℕ) (u : Net) (x : Entry) → u.table ≡ s.table → oldest k t (waiting u N) ≡ Some x → ahead u k N t ≡ next_place s.table N x.target
   ahead_is k u x q h =
       ap (λ (o : Option Entry). next_place u.table N (or_else zero_entry o).target) h ∙ ap (λ (T : Table). next_place T N x.target) q
 
   -- and so is all that is made of the two
-  moved_is : {B : Type 0} (k : ℕ) (u : Net) (x : Entry) (f : Entry → NextPlace → B) → u.table ≡ s.table → oldest k t (waiting u N) ≡ some x
+  moved_is : {B : Type 0} (k : ℕ) (u : Net) (x : Entry) (f : Entry → NextPlace → B) → u.table ≡ s.table → oldest k t (waiting u N) ≡ Some x
       → f (entry_at u k N t) (ahead u k N t) ≡ f x (next_place s.table N x.target)
   moved_is k u x f q h =
       ap (f (entry_at u k N t)) (ahead_is k u x q h) ∙ ap (λ (o : Option Entry). f (or_else zero_entry o) (next_place s.table N x.target)) h
 
   -- what is made of the entry enters there
-  enters_is : (k : ℕ) (u : Net) (x : Entry) (g : Entry → Entry) → u.table ≡ s.table → oldest k t (waiting u N) ≡ some x
+  enters_is : (k : ℕ) (u : Net) (x : Entry) (g : Entry → Entry) → u.table ≡ s.table → oldest k t (waiting u N) ≡ Some x
       → enters (ahead u k N t) (g (entry_at u k N t)) ≡ enters (next_place s.table N x.target) (g x)
   enters_is k u x g q h = moved_is k u x (λ y N1. enters N1 (g y)) q h
 
@@ -96,7 +96,7 @@ module _ (s : Net) (N : Chan) (t : Transaction) where
   -- ---- commit
 
   abbrev tries_R : Option Chan → Footing
-  tries_R takes = occurs_on (out_bus s.table N) (some (the_R N t)) takes
+  tries_R takes = occurs_on (out_bus s.table N) (Some (the_R N t)) takes
 
   -- kinds 4, 6 and 7 use the R that they try
   uses_R : (takes : Option Chan) → Uses s (tries_R takes) (the_R N t)
@@ -111,13 +111,13 @@ module _ (s : Net) (N : Chan) (t : Transaction) where
       let x = r.0 in
       record {
         deeds = (is_marked N t, x) ∷ [];
-        piece = so s (tries_R none) (named_piece R N t s (tries_R none) marking x marks (uses_R none) r.1)
+        piece = so s (tries_R None) (named_piece R N t s (tries_R None) marking x marks (uses_R None) r.1)
             (λ u q b. record {
               accepted = unclear (grounds u (Commit N t))
                   (named_clear R u x _ _ q b.found c (rw b.found (rw r.1.found at d.0), (still_not_behind R N t u x b, tt)));
               does = refl;
               says = refl;
-              stands = ap (λ (T : Table). occurs_on (out_bus T N) (some (the_R N t)) none) q;
+              stands = ap (λ (T : Table). occurs_on (out_bus T N) (Some (the_R N t)) None) q;
             });
         inwards = (tt, tt);
         done = refl;
@@ -134,7 +134,7 @@ module _ (s : Net) (N : Chan) (t : Transaction) where
         let r = not_behind P N t s (named_six P _ c) d.0 in
         let x = r.0 in
         let N1 = next_place s.table N x.target in
-        let e = occurs_on (out_bus s.table N) none none in
+        let e = occurs_on (out_bus s.table N) None None in
         record {
           deeds = (leaves P N t, x) ∷ entering N1 x;
           piece = so s e
@@ -147,7 +147,7 @@ module _ (s : Net) (N : Chan) (t : Transaction) where
                     (named_clear P u x _ _ q b.0.found c (still_not_behind P N t u x b.0, (rw (ahead_is P u x q b.0.found) b.1, tt)));
                 does = ap (leaves P N t ∷◌) (enters_is P u x (λ y. y) q b.0.found ∙ sym (enters_is P s x (λ y. y) refl r.1.found));
                 says = refl;
-                stands = ap (λ (T : Table). occurs_on (out_bus T N) none none) q;
+                stands = ap (λ (T : Table). occurs_on (out_bus T N) None None) q;
               });
           inwards = entering_inwards (is_named P t) gone x x N1;
           done = ap (leaves P N t ∷◌) (entering_is N1 x ∙ sym (enters_is P s x (λ y. y) refl r.1.found));
@@ -164,17 +164,17 @@ module _ (s : Net) (N : Chan) (t : Transaction) where
         let x = r.0 in
         let n = goes_through (next_place s.table N x.target) (rw (ahead_is R s x refl r.1.found) at d.0) in
         let X = n.0 in
-        let here : (u : Net) → u.table ≡ s.table → oldest R t (waiting u N) ≡ some x → ahead u R N t ≡ Through X = λ u q h. ahead_is R u x q h ∙ n.1 in
-        let already : (u : Net) → u.table ≡ s.table → oldest R t (waiting u N) ≡ some x
+        let here : (u : Net) → u.table ≡ s.table → oldest R t (waiting u N) ≡ Some x → ahead u R N t ≡ Through X = λ u q h. ahead_is R u x q h ∙ n.1 in
+        let already : (u : Net) → u.table ≡ s.table → oldest R t (waiting u N) ≡ Some x
         → latched_already u (entry_at u R N t) (ahead u R N t) ≡ latched_already u x (Through X)
         = λ u q h. moved_is R u x (latched_already u) q h ∙ ap (latched_already u x) n.1 in
-        let e = tries_R none in
+        let e = tries_R None in
         let v = gives_ahead s passed e N (named_there R _ c) refl x.target X n.1 in
         record {
           deeds = (is_marked N t, x) ∷ adding X (as_kind R x);
           piece = so s e
               (joined s e ((is_marked N t, x) ∷ []) (adding X (as_kind R x))
-              (named_piece R N t s e marking x marks (uses_R none) r.1)
+              (named_piece R N t s e marking x marks (uses_R None) r.1)
               (joined s e [] (adding X (as_kind R x))
               (free_piece s e x X v (ahead_and_back s passed e N (named_there R _ c) refl x.target X n.1) (sym (already s refl r.1.found) ∙ d.1.1.0))
               (adding_piece s e R t.master X (as_kind R x) v (no_answers s X (as_kind R x) R refl R≢C) (rw (here s refl r.1.found) at d.1.1.1.0))))
@@ -186,7 +186,7 @@ module _ (s : Net) (N : Chan) (t : Transaction) where
                     ));
                 does = ap (is_marked N t ∷◌) (enters_is R u x (as_kind R) q b.0.found ∙ sym (enters_is R s x (as_kind R) refl r.1.found));
                 says = refl;
-                stands = ap (λ (T : Table). occurs_on (out_bus T N) (some (the_R N t)) none) q;
+                stands = ap (λ (T : Table). occurs_on (out_bus T N) (Some (the_R N t)) None) q;
               });
           inwards = entering_inwards (is_named R t) marking x (as_kind R x) (Through X);
           done = ap (is_marked N t ∷◌) (ap (λ (N1 : NextPlace). enters N1 (as_kind R x)) (sym n.1) ∙ sym (enters_is R s x (as_kind R) refl r.1.found));
@@ -199,14 +199,14 @@ module _ (s : Net) (N : Chan) (t : Transaction) where
     -- ---- complete
 
     -- its footing and effects, where the R is the same
-    complete_stands : (u : Net) (x : Entry) → u.table ≡ s.table → oldest R t (waiting u N) ≡ some x
+    complete_stands : (u : Net) (x : Entry) → u.table ≡ s.table → oldest R t (waiting u N) ≡ Some x
         → footing u (Complete N t) ≡ tries_R (taken_from s.table (next_place s.table N x.target))
     unfolding footing
     complete_stands u x q h =
-        ap (λ (N1 : NextPlace). occurs_on (out_bus u.table N) (some (the_R N t)) (taken_from u.table N1)) (ahead_is R u x q h)
-        ∙ ap (λ (T : Table). occurs_on (out_bus T N) (some (the_R N t)) (taken_from T (next_place s.table N x.target))) q
+        ap (λ (N1 : NextPlace). occurs_on (out_bus u.table N) (Some (the_R N t)) (taken_from u.table N1)) (ahead_is R u x q h)
+        ∙ ap (λ (T : Table). occurs_on (out_bus T N) (Some (the_R N t)) (taken_from T (next_place s.table N x.target))) q
 
-    complete_effects : (u : Net) (x : Entry) → u.table ≡ s.table → oldest R t (waiting u N) ≡ some x
+    complete_effects : (u : Net) (x : Entry) → u.table ≡ s.table → oldest R t (waiting u N) ≡ Some x
         → effects u (Complete N t) ≡ leaves R N t ∷ (answer_taken s.table (next_place s.table N x.target) x ++ answer_given s.table N x)
     unfolding effects
     complete_effects u x q h =
@@ -276,7 +276,7 @@ module _ (s : Net) (N : Chan) (t : Transaction) where
               (named_piece R N t s e gone x takes_out (uses_R (taken_from s.table (ahead s R N t))) r.1)
               (joined s e (bringing_deeds s.table N1 x w.entry) gives w.piece
               (giving_piece s passed e N there refl b t.master x refl
-              (subst⁻¹ (λ (u : Transaction). oldest R u (waiting s N) ≡ some x) own.1 r.1.found) d.1.1.1.0)))
+              (subst⁻¹ (λ (u : Transaction). oldest R u (waiting s N) ≡ Some x) own.1 r.1.found) d.1.1.1.0)))
               (λ u q k. complete_again u x q r.1 k.0 k.1.0 k.1.1 c);
           inwards = complete_inwards N1 b x w.entry r.1.named w.matched;
           done = ap (leaves R N t ∷◌) (complete_edits N1 b x w.entry refl) ∙ sym (complete_effects s x refl r.1.found);
@@ -306,7 +306,7 @@ module _ (s : Net) (N : Chan) (t : Transaction) where
       }
 
   -- where no C is found, none of that name is
-  no_C_named : (l : List Entry) → find (is_kind C) l ≡ none → find (is_named C t) l ≡ none
+  no_C_named : (l : List Entry) → find (is_kind C) l ≡ None → find (is_named C t) l ≡ None
   unfolding find
   no_C_named [] h = refl
   no_C_named (y ∷ l) h =
@@ -317,7 +317,7 @@ module _ (s : Net) (N : Chan) (t : Transaction) where
       (λ n. rw n (no_C_named l (rw k at h))))
 
   -- where a C is found, so is the oldest C, and it is another
-  older_C : is_oldest_C s N t ≡ false → (x : Entry) → oldest C t (waiting s N) ≡ some x → Younger s (Foot.the_C N t)
+  older_C : is_oldest_C s N t ≡ false → (x : Entry) → oldest C t (waiting s N) ≡ Some x → Younger s (Foot.the_C N t)
   unfolding first_C
   older_C h x k =
       there (find (is_kind C) (waiting s N))

@@ -1,5 +1,6 @@
 -- Demand 3 on bytes: the records of an accepted tick, in any order, are an accepted tick from the same state and end in the same state, with the values
 -- moved along; so are they as single steps. A record's value is the one it has alone, and its event goes with it; the rest is said of events.
+use Rattle.std.specs.Prelude.{Some, Ok}
 use Prim.Native.Nat.{ℕ, ◌/◌, ◌%◌, ◌≤◌}
 use native.Mathlib.Omega.{arith}
 use mathlib.Core.Path.{◌≡◌, refl, sym, ap, subst, subst⁻¹, ◌∙◌}
@@ -17,14 +18,12 @@ use Rattle.network.specs.Shapes.{Shaped}
 use Rattle.network.specs.Soundness.{sound}
 use Rattle.network.proofs.Good.{sound_is_good}
 use Rattle.events.specs.declared.Event.{Event}
-use Rattle.events.specs.declared.Decoded.TheVariants.{Known}
 use Rattle.events.specs.declared.Outcome.{Outcome}
 use Rattle.events.specs.Records.{decoded, records}
 use Rattle.events.specs.Grounds.{Accepted}
 use Rattle.events.specs.Effects.{value}
 use Rattle.events.specs.Steps.{answer_value, step}
 use Rattle.events.proofs.TakenSteps.{inner_is}
-use Rattle.ticks.specs.declared.TickAnswer.TheVariants as tick-answer
 use Rattle.ticks.specs.Ticks.{tick}
 use Rattle.ticks.proofs.OrderCannotMatter.{agrees_too, same_end}
 use Rattle.ticks.proofs.TickGrounds.{Admitted, no_tick_ground}
@@ -41,7 +40,7 @@ own_value s r = answer_value (step s r).answer
 -- what the tick of c is, where c holds the records of b in another order
 pub record InAnyOrder (s : State) (b c out other : List ℕ) : Type 0 where
   -- it is accepted
-  pub accepted : (tick s c other).answer ≡ tick-answer.Accepted
+  pub accepted : (tick s c other).answer ≡ Ok tt
   -- it ends in the same state
   pub state : (tick s c other).state ≡ (tick s b out).state
   -- each record has the value that it has there: records and values side by side are in that other order too
@@ -62,7 +61,7 @@ like_values s h (r ∷ rs) (e ∷ es) k ok =
     let v = ap (λ (o : Outcome). answer_value o.answer) (k.0 s h ∙ inner_is s e ok.0) in
     λ i. sym v i ∷ like_values s h rs es k.1 ok.1 i
 
-module _ (s : State) (w : Shaped s) (b out : List ℕ) (ok : (tick s b out).answer ≡ tick-answer.Accepted) where
+module _ (s : State) (w : Shaped s) (b out : List ℕ) (ok : (tick s b out).answer ≡ Ok tt) where
   abbrev admitted : Admitted s b out
   admitted = (no_tick_ground s b out).0 (was_acceptable s b out ok).no_ground
 
@@ -104,14 +103,14 @@ module _ (s : State) (w : Shaped s) (b out : List ℕ) (ok : (tick s b out).answ
 -- ---- in any order
 
 -- the tick of b is accepted, so s is sound; c is whole records, with a place for each
-module _ (s : State) (w : Shaped s) (b c out other : List ℕ) (ok : (tick s b out).answer ≡ tick-answer.Accepted)
+module _ (s : State) (w : Shaped s) (b c out other : List ℕ) (ok : (tick s b out).answer ≡ Ok tt)
     (whole : length c % 8 ≡ 0) (places : length c / 8 ≤ length other) where
   pub in_any_order : Order (eights b) (eights c) → InAnyOrder s b c out other
   unfolding records
   in_any_order same =
       let o = (was_acceptable s b out ok).orderly in
       let a = admitted s w b out ok in
-      let r = order_unmap Known (order_map decoded same) o.events o.known in
+      let r = order_unmap Some (order_map decoded same) o.events o.known in
       let p : Orderly (view s) c = record { events = r.0; known = r.1; agreeing = agrees_too (view s) r.2 o.agreeing } in
       let n : length b / 8 ≡ length c / 8 = sym (length_parts (length b / 8) 8 b) ∙ order_length same ∙ length_parts (length c / 8) 8 c in
       let few : length c ≤ most_record_bytes = omega (arith, n, whole, a.few) in

@@ -4,13 +4,15 @@ use Prim.Native.Nat.{ℕ}
 use mathlib.Core.Path.{◌≡◌, refl, ap}
 use mathlib.Core.Bool.{Bool, true, false, ◌||◌}
 use mathlib.Core.List.{List, [], ◌∷◌, map}
-use mathlib.Core.Option.{Option, none, some}
+use Rattle.std.specs.Prelude.{Option, None, Some}
 use lib.Dec.{eqb}
 use Rattle.base.specs.Lists.{find, alter, count, all, any, modify, from_to}
 use Rattle.base.specs.Grounds.{refusal}
+use Rattle.base.specs.declared.Refusal.{Refusal}
+use Rattle.base.specs.declared.Refusal.TheVariants.{NoRoom, NoSuchEntry, AlreadyCommitted, OldestAnswer}
 use Rattle.base.proofs.Orders.{All, all_map}
 use Rattle.chassis.specs.declared.Table.{Table}
-use Rattle.chassis.specs.Numbers.{agent, bus, chan, same_agent, same_bus}
+use Rattle.chassis.specs.Numbers.{agent, chan, same_agent, same_bus}
 use Rattle.chassis.specs.Channels.{out_bus, opposite}
 use Rattle.chassis.specs.Routes.{component, loop_free, all_joined, one_way, way_over, next_place}
 use Rattle.chassis.specs.Tables.{counts_in_range, unused_are_zero, buses_are_there, a_bridge_on_one_bus, table_grounds, table_passes}
@@ -64,7 +66,7 @@ pub record Row : Type 0 where
   pub first : Event
   pub second : Event
   pub line : ℕ
-  pub refused : ℕ
+  pub refused : Refusal
 
 -- agent 0 reads agent 1
 abbrev reads : Event
@@ -73,9 +75,9 @@ reads = BeginRead (agent 0) (agent 1)
 unfoldable pub rows : List Row
 rows =
     -- (a) a latch commits the R that a commit is to commit: 8
-    record { table = T-with 2 1 1; before = reads ∷ []; first = Latch (chan 0) (its 1); second = Commit (chan 0) (its 1); line = 0; refused = 8 }
+    record { table = T-with 2 1 1; before = reads ∷ []; first = Latch (chan 0) (its 1); second = Commit (chan 0) (its 1); line = 0; refused = AlreadyCommitted }
     -- (b) two begins of one agent with room for one: 5
-    ∷ record { table = T-with 2 1 1; before = []; first = reads; second = BeginWrite (agent 0) (agent 1); line = 1; refused = 5 }
+    ∷ record { table = T-with 2 1 1; before = []; first = reads; second = BeginWrite (agent 0) (agent 1); line = 1; refused = NoRoom }
     -- (c) a dropped R is not there to be committed: 6
     ∷ record {
       table = T-with 2 1 1;
@@ -83,7 +85,7 @@ rows =
       first = DropRequest (chan 2) (its 1);
       second = Commit (chan 2) (its 1);
       line = 2;
-      refused = 6;
+      refused = NoSuchEntry;
     }
     -- (d) the oldest C taken, the next is the oldest and cannot be dropped: 13
     ∷ record {
@@ -92,7 +94,7 @@ rows =
       first = Complete (chan 0) (its 1);
       second = DropCompletion (chan 3) (its 2);
       line = 3;
-      refused = 13;
+      refused = OldestAnswer;
     }
     -- (e) what is dropped is not there to be dropped again: 6
     ∷ record {
@@ -101,14 +103,14 @@ rows =
       first = DropRequest (chan 2) (its 1);
       second = DropRequest (chan 2) (its 1);
       line = 4;
-      refused = 6;
+      refused = NoSuchEntry;
     }
     ∷ []
 
 -- ---- the statement
 
 -- what each is refused for in the state that those before it reach
-unfoldable pub refusals : Net → List Event → List (Option ℕ)
+unfoldable pub refusals : Net → List Event → List (Option Refusal)
 refusals s [] = []
 refusals s (e ∷ es) = refusal (grounds s e) ∷ refusals (after s e) es
 
@@ -118,12 +120,12 @@ reached_by r = end_of (empty_net r.table) r.before
 
 pub record Finding : Type 0 where
   pub passes : Bool
-  pub on_the_way : List (Option ℕ)
-  pub first_alone : Option ℕ
-  pub second_alone : Option ℕ
+  pub on_the_way : List (Option Refusal)
+  pub first_alone : Option Refusal
+  pub second_alone : Option Refusal
   pub conflicts : Bool
   pub lines : List Bool
-  pub second_later : Option ℕ
+  pub second_later : Option Refusal
 
 abbrev pub found : Row → Finding
 found r = record {
@@ -142,12 +144,12 @@ only i = map (eqb i) (0 ∷ 1 ∷ 2 ∷ 3 ∷ 4 ∷ [])
 abbrev pub claimed : Row → Finding
 claimed r = record {
   passes = true;
-  on_the_way = map (λ _. none) r.before;
-  first_alone = none;
-  second_alone = none;
+  on_the_way = map (λ _. None) r.before;
+  first_alone = None;
+  second_alone = None;
   conflicts = true;
   lines = only r.line;
-  second_later = some r.refused;
+  second_later = Some r.refused;
 }
 
 computed : map found rows ≡ map claimed rows
@@ -163,9 +165,9 @@ pub record Needed (r : Row) : Type 0 where
   pub in_conflict : conflict (reached_by r) r.first r.second ≡ true
   -- by this line and no other
   pub by_its_line : lines (footing (reached_by r) r.first) (footing (reached_by r) r.second) ≡ only r.line
-  pub second_refused : refusal (grounds (after (reached_by r) r.first) r.second) ≡ some r.refused
+  pub second_refused : refusal (grounds (after (reached_by r) r.first) r.second) ≡ Some r.refused
 
-reached_all : (s : Net) → Reached s → (es : List Event) → refusals s es ≡ map (λ _. none) es → Reached (end_of s es)
+reached_all : (s : Net) → Reached s → (es : List Event) → refusals s es ≡ map (λ _. None) es → Reached (end_of s es)
 unfolding refusals end_of
 reached_all s r [] h = r
 reached_all s r (e ∷ es) h = reached_all (after s e) (and_then s e r (cc)) es (cc)

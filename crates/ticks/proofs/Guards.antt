@@ -6,7 +6,7 @@ use mathlib.Core.Path.{◌≡◌, refl, sym, ap, ◌∙◌}
 use mathlib.Core.Logic.{◌≢◌, ◌⊎◌, inl, inr, ⊎_elim}
 use mathlib.Core.List.{List, [], ◌∷◌, map}
 use mathlib.Core.Bool.{Bool, false}
-use mathlib.Core.Option.{none, some}
+use Rattle.std.specs.Prelude.{None, Some}
 use lib.ListN.{get_or}
 use Rattle.base.specs.Lists.{find, modify}
 use Rattle.base.proofs.Logic.{equal?}
@@ -32,8 +32,8 @@ pub data Guard : Type 0 where
   counted : Agent → ℕ → Guard
 
 abbrev pub Holds : Net → Guard → Type 0
-Holds s (has X p x) = find p (waiting s X) ≡ some x
-Holds s (absent X p) = find p (waiting s X) ≡ none
+Holds s (has X p x) = find p (waiting s X) ≡ Some x
+Holds s (absent X p) = find p (waiting s X) ≡ None
 Holds s (room X r) = filling r.holds (waiting s X) < r.most
 Holds s (counted a n) = begun s a ≡ n
 
@@ -41,7 +41,7 @@ Holds s (counted a n) = begun s a ≡ n
 
 -- f makes nothing that passes p of what does not
 abbrev pub Quiet : (Entry → Bool) → (Entry → List Entry) → Type 0
-Quiet p f = (x : Entry) → p x ≡ false → find p (f x) ≡ none
+Quiet p f = (x : Entry) → p x ≡ false → find p (f x) ≡ None
 
 -- f makes no more that pass p
 abbrev pub Calm : (Entry → Bool) → (Entry → List Entry) → Type 0
@@ -78,19 +78,19 @@ pub at_one : {X Y : Chan} {B : Type 0} → Elsewhere X Y B → X.0 ≡ Y.0 → B
 at_one (inl n) e = absurd (n (chan_path e))
 at_one (inr b) e = b
 
-none_in : (p : Entry → Bool) (x : Entry) → p x ≡ false → find p (x ∷ []) ≡ none
+none_in : (p : Entry → Bool) (x : Entry) → p x ≡ false → find p (x ∷ []) ≡ None
 unfolding find
 none_in p x h = rw h
 
 pub keeps : (s : Net) (g : Guard) (d : Edit) → Safe g d → Holds s g → Holds (edit d s) g
 unfolding edit
-keeps s (has X p x) (add Y y) w h = cell (λ l. find p l ≡ some x) s.chans X.0 Y.0 _ [] (λ _ k. find_add p (waiting s Y) (y ∷ []) k) h
+keeps s (has X p x) (add Y y) w h = cell (λ l. find p l ≡ Some x) s.chans X.0 Y.0 _ [] (λ _ k. find_add p (waiting s Y) (y ∷ []) k) h
 keeps s (has X p x) (change Y q f) w h =
-    cell (λ l. find p l ≡ some x) s.chans X.0 Y.0 _ [] (λ c k. find_alter p q f w.0 (waiting s Y) k (at_one w.1 c)) h
+    cell (λ l. find p l ≡ Some x) s.chans X.0 Y.0 _ [] (λ c k. find_alter p q f w.0 (waiting s Y) k (at_one w.1 c)) h
 keeps s (has X p x) (raise b) w h = h
 keeps s (absent X p) (add Y y) w h =
-    cell (λ l. find p l ≡ none) s.chans X.0 Y.0 _ [] (λ c k. none_add p (waiting s Y) (y ∷ []) k ∙ none_in p y (at_one w c)) h
-keeps s (absent X p) (change Y q f) w h = cell (λ l. find p l ≡ none) s.chans X.0 Y.0 _ [] (λ c k. none_alter p q f w (waiting s Y) k) h
+    cell (λ l. find p l ≡ None) s.chans X.0 Y.0 _ [] (λ c k. none_add p (waiting s Y) (y ∷ []) k ∙ none_in p y (at_one w c)) h
+keeps s (absent X p) (change Y q f) w h = cell (λ l. find p l ≡ None) s.chans X.0 Y.0 _ [] (λ c k. none_alter p q f w (waiting s Y) k) h
 keeps s (absent X p) (raise b) w h = h
 keeps s (room X r) (add Y y) w h = cell (λ l. filling r.holds l < r.most) s.chans X.0 Y.0 _ [] (λ c _. absurd (w (chan_path c))) h
 keeps s (room X r) (change Y q f) w h =
@@ -109,7 +109,7 @@ Deed = Edit × Entry
 -- what a deed relies on: the entry that it changes is the oldest that passes
 abbrev pub Ready : Net → Deed → Type 0
 Ready s (add X x, e) = Unit {0}
-Ready s (change X p f, e) = find p (waiting s X) ≡ some e
+Ready s (change X p f, e) = find p (waiting s X) ≡ Some e
 Ready s (raise a, e) = Unit {0}
 
 -- two deeds that do not meet

@@ -6,7 +6,7 @@ use mathlib.Core.Path.{◌≡◌, refl, sym, ap, subst⁻¹, ◌∙◌}
 use mathlib.Core.Logic.{◌≢◌}
 use mathlib.Core.List.{List, [], ◌∷◌, ◌++◌}
 use mathlib.Core.Bool.{Bool, true, false, not, ◌&&◌, ◌||◌}
-use mathlib.Core.Option.{Option, none, some}
+use Rattle.std.specs.Prelude.{Option, None, Some}
 use borrow.Author.Tests.{lt-leb, not-false}
 use Rattle.base.specs.Lists.{find, is_some, passes, or_else}
 use Rattle.base.proofs.Logic.{split, both, or_false, none_some}
@@ -87,25 +87,25 @@ unfolding marked is_named
 P-or-blind k t x = refl
 
 pub record Named (s : Net) (k : ℕ) (N : Chan) (t : Transaction) (x : Entry) : Type 0 where
-  pub first : find (P-or (is_named k t)) (waiting s N) ≡ some x
+  pub first : find (P-or (is_named k t)) (waiting s N) ≡ Some x
   pub named : is_named k t x ≡ true
-  pub found : oldest k t (waiting s N) ≡ some x
+  pub found : oldest k t (waiting s N) ≡ Some x
 
-passing : (p : Entry → Bool) (o : Option Entry) → not (passes p o) ≡ false → (x : Entry) × (o ≡ some x) × (p x ≡ true)
-passing p none h = absurd (both true refl h)
-passing p (some x) h = (x, refl, not-false (p x) h)
+passing : (p : Entry → Bool) (o : Option Entry) → not (passes p o) ≡ false → (x : Entry) × (o ≡ Some x) × (p x ≡ true)
+passing p None h = absurd (both true refl h)
+passing p (Some x) h = (x, refl, not-false (p x) h)
 
 -- the oldest that is P or passes, if it passes, is the oldest that passes
-unblocked : (p : Entry → Bool) (l : List Entry) (x : Entry) → find (P-or p) l ≡ some x → p x ≡ true → find p l ≡ some x
+unblocked : (p : Entry → Bool) (l : List Entry) (x : Entry) → find (P-or p) l ≡ Some x → p x ≡ true → find p l ≡ Some x
 unfolding find
 unblocked p [] x h t = absurd (none_some {a = x} refl h)
 unblocked p (y ∷ l) x h t =
     split (P-or p y)
-    (λ b. let z : y ≡ x = cc (rw b at h) in let w : p y ≡ true = cc in rw w (ap some z))
+    (λ b. let z : y ≡ x = cc (rw b at h) in let w : p y ≡ true = cc in rw w (ap Some z))
     (λ b. rw (or_false (is_kind P y) (p y) b).1 (unblocked p l x (rw b at h) t))
 
 module _ (k : ℕ) (N : Chan) (t : Transaction) where
-  named_by : (s : Net) (x : Entry) → find (P-or (is_named k t)) (waiting s N) ≡ some x → is_named k t x ≡ true → Named s k N t x
+  named_by : (s : Net) (x : Entry) → find (P-or (is_named k t)) (waiting s N) ≡ Some x → is_named k t x ≡ true → Named s k N t x
   named_by s x h n = record { first = h; named = n; found = unblocked (is_named k t) (waiting s N) x h n }
 
   pub not_behind : (s : Net) → no_such_entry s k N t ≡ false → behind_a_P s k N t ≡ false → (x : Entry) × Named s k N t x
@@ -134,8 +134,8 @@ module _ (k : ℕ) (N : Chan) (t : Transaction) where
   }
 
   -- where older P do not matter
-  pub found_piece : (s : Net) (e : Footing) (x : Entry) → Uses s e name → oldest k t (waiting s N) ≡ some x
-      → Piece s e ((leaves k N t, x) ∷ []) (λ u. oldest k t (waiting u N) ≡ some x)
+  pub found_piece : (s : Net) (e : Footing) (x : Entry) → Uses s e name → oldest k t (waiting s N) ≡ Some x
+      → Piece s e ((leaves k N t, x) ∷ []) (λ u. oldest k t (waiting u N) ≡ Some x)
   found_piece s e x v h =
       let n = found_passes (is_named k t) (waiting s N) h in
       record {
@@ -167,7 +167,7 @@ adding_piece s e k m X x v o h = record {
 }
 
 -- the agent's count is as before, and rises
-pub raising_piece : (s : Net) (e : Footing) (m : Agent) → e.beginner ≡ some m → Piece s e ((raise m, zero_entry) ∷ []) (λ u. begun u m ≡ begun s m)
+pub raising_piece : (s : Net) (e : Footing) (m : Agent) → e.beginner ≡ Some m → Piece s e ((raise m, zero_entry) ∷ []) (λ u. begun u m ≡ begun s m)
 raising_piece s e m b = record {
   guards = counted m (begun s m) ∷ [];
   held = (refl, tt);
@@ -212,14 +212,14 @@ free_by_name s e t X v back h =
       held = (none-R, (is_none (oldest C t (waiting s (opposite s.table X))) r.1, tt));
       own = (
         none_ahead v (named_blind R t),
-        (no_answer (opposite s.table X) t (subst⁻¹ (λ (Y : Chan). oldest R t (waiting s Y) ≡ none) back none-R), tt),
+        (no_answer (opposite s.table X) t (subst⁻¹ (λ (Y : Chan). oldest R t (waiting s Y) ≡ None) back none-R), tt),
       );
       ready = tt;
       mine = tt;
       again = λ u q g. nothing u q g.0 g.1.0;
     }
   where
-    nothing : (u : Net) → u.table ≡ s.table → oldest R t (waiting u X) ≡ none → oldest C t (waiting u (opposite s.table X)) ≡ none
+    nothing : (u : Net) → u.table ≡ s.table → oldest R t (waiting u X) ≡ None → oldest C t (waiting u (opposite s.table X)) ≡ None
         → Free (λ k. is_named k t) X u
     nothing u q a b =
         subst⁻¹ (λ (Y : Chan). (stands R t (waiting u X) || stands C t (waiting u Y)) ≡ false) (ap (λ (T : Table). opposite T X) q) (rw (a, b))
@@ -312,21 +312,21 @@ bringing s e r (Through X) v h k =
 -- ---- on the event's bus: what goes on to N1, what comes back from there, and what N gives back
 
 module _ (s : Net) (ok : table_passes s.table ≡ true) (e : Footing) (N : Chan) (there : has_chan s.table N ≡ true)
-    (bus : e.bus ≡ some (out_bus s.table N)) where
+    (bus : e.bus ≡ Some (out_bus s.table N)) where
   pub gives_ahead : (a : Agent) (X : Chan) → next_place s.table N a ≡ Through X → Gives s e X
   gives_ahead a X h = into_bus (out_bus s.table N) bus (next s.table ok N a X there h).into
 
   pub ahead_and_back : (a : Agent) (X : Chan) → next_place s.table N a ≡ Through X → opposite s.table (opposite s.table X) ≡ X
   ahead_and_back a X h = let n = next s.table ok N a X there h in (opposing s.table X n.there n.no_master).back
 
-  pub uses_answer : (a : Agent) (X : Chan) (t : Transaction) → next_place s.table N a ≡ Through X → e.takes ≡ some (opposite s.table X)
+  pub uses_answer : (a : Agent) (X : Chan) (t : Transaction) → next_place s.table N a ≡ Through X → e.takes ≡ Some (opposite s.table X)
       → Uses s e (record { channel = opposite s.table X; kind = C; transaction = t })
   uses_answer a X t h c =
       let n = next s.table ok N a X there h in
       let o = opposing s.table X n.there n.no_master in
       on_bus (bus ∙ sym n.into ∙ o.out) (λ (k : C ≡ R). absurd (omega arith)) (λ _. c)
 
-  pub giving_piece : (b : Bool) (m : Agent) (x : Entry) → is_master s.table N ≡ b → oldest R x.transaction (waiting s N) ≡ some x → answer_full s m N ≡ false
+  pub giving_piece : (b : Bool) (m : Agent) (x : Entry) → is_master s.table N ≡ b → oldest R x.transaction (waiting s N) ≡ Some x → answer_full s m N ≡ false
       → Piece s e (giving s.table b N x) (λ u. answer_full u m N ≡ false)
   unfolding as_kind
   giving_piece true m x i h r = so s e (no_piece s e) (λ u q _. masters u q)
@@ -337,7 +337,7 @@ module _ (s : Net) (ok : table_passes s.table ≡ true) (e : Footing) (N : Chan)
       let o = opposing s.table N there i in
       so s e
       (adding_piece s e C m (opposite s.table N) (as_kind C x) (into_bus (out_bus s.table N) bus o.into)
-      (λ _. (x, subst⁻¹ (λ (Y : Chan). oldest R x.transaction (waiting s Y) ≡ some x) o.back h))
+      (λ _. (x, subst⁻¹ (λ (Y : Chan). oldest R x.transaction (waiting s Y) ≡ Some x) o.back h))
       (rw i at r))
       (λ u q f. and_not (not (is_master u.table N)) (full u C m (opposite u.table N))
       (subst⁻¹ (λ (Y : Chan). full u C m Y ≡ false) (ap (λ (T : Table). opposite T N) q) f))

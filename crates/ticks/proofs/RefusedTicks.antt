@@ -5,9 +5,10 @@ use native.Mathlib.Omega.{arith}
 use mathlib.Core.Path.{◌≡◌, refl, sym, ap, ◌∙◌}
 use mathlib.Core.Bool.{true}
 use mathlib.Core.List.{List, []}
-use mathlib.Core.Option.{none, some}
+use Rattle.std.specs.Prelude.{None, Some, Ok, Err}
 use Rattle.base.specs.Lists.{parts}
 use Rattle.base.specs.Grounds.{refusal}
+use Rattle.base.specs.declared.Refusal.{Refusal}
 use Rattle.base.proofs.Logic.{there}
 use Rattle.chassis.specs.Numbers.{agent}
 use Rattle.network.specs.declared.State.{State}
@@ -16,9 +17,8 @@ use Rattle.network.specs.Soundness.{sound}
 use Rattle.network.proofs.Packing.{sound_is_packed}
 use Rattle.events.specs.declared.Event.TheVariants.{BeginRead}
 use Rattle.events.specs.Records.{records}
-use Rattle.ticks.specs.declared.TickAnswer.{TickAnswer}
-use Rattle.ticks.specs.declared.TickAnswer.TheVariants.{Accepted, Refused, Conflict}
-use Rattle.ticks.specs.Ticks.{known, end_of, values_of, first_refused, first_pair, Ticked, held, ticked, tick_grounds, judged, tick}
+use Rattle.ticks.specs.declared.TickRefusal.TheVariants.{Refused, Conflict}
+use Rattle.ticks.specs.Ticks.{known, end_of, values_of, first_refused, first_pair, Ticked, held, ticked, tick_grounds, judged, tick, TickAnswer}
 use Rattle.ticks.proofs.Searches.{known_all, refuses_none, LowestRefused, refused_is_found, pair_is_found}
 use Rattle.ticks.proofs.TickGrounds.{no_tick_ground}
 use Rattle.ticks.proofs.Verdicts.{Tick}
@@ -28,12 +28,16 @@ use Rattle.ticks.proofs.WrongTicks.{Lent, MeetsTick}
 
 -- ---- the tick
 
+-- an answer, with the state and the lent answer list as they stood
+abbrev pub unchanged : State → List ℕ → TickAnswer → Ticked
+unchanged s out a = record { answer = a; state = s; answers = out }
+
 module _ (s : State) (b out : List ℕ) where
-  pub refused_at_once : (n : ℕ) → refusal (tick_grounds s b out) ≡ some n → tick s b out ≡ held s out (Refused n 0)
+  pub refused_at_once : (n : Refusal) → refusal (tick_grounds s b out) ≡ Some n → tick s b out ≡ held s out (Refused n 0)
   unfolding tick
   refused_at_once n g = rw (g, tick)
 
-  refused_by_one : (n i : ℕ) → refusal (tick_grounds s b out) ≡ none → LowestRefused (view s) (records b) n i → tick s b out ≡ held s out (Refused n i)
+  refused_by_one : (n : Refusal) (i : ℕ) → refusal (tick_grounds s b out) ≡ None → LowestRefused (view s) (records b) n i → tick s b out ≡ held s out (Refused n i)
   unfolding tick judged
   refused_by_one n i g r =
       let f = refused_is_found (view s) 0 (records b) n i r in
@@ -52,7 +56,7 @@ module _ (s : State) (b out : List ℕ) where
       zero_and : (k : ℕ) → 0 + k ≡ k
       zero_and k = omega arith
 
-  tick_held : ((tick s b out).answer ≡ Accepted → ⊥) → tick s b out ≡ held s out (tick s b out).answer
+  tick_held : ((tick s b out).answer ≡ Ok tt → ⊥) → tick s b out ≡ unchanged s out (tick s b out).answer
   unfolding tick judged
   tick_held refused =
       there (refusal (tick_grounds s b out))
@@ -71,11 +75,11 @@ module _ (g : Tick) (meets : MeetsTick g) (s : State) (b out : List ℕ) (w : Le
   answered h = sym (ap (λ (t : Ticked). t.answer) (meets s b out w)) ∙ h
 
   -- the first of 16, 18 and 17 that holds gives the number
-  pub a_ground_refuses_the_tick : (n : ℕ) → refusal (tick_grounds s b out) ≡ some n → g s b out ≡ held s out (Refused n 0)
+  pub a_ground_refuses_the_tick : (n : Refusal) → refusal (tick_grounds s b out) ≡ Some n → g s b out ≡ held s out (Refused n 0)
   a_ground_refuses_the_tick n h = meets s b out w ∙ refused_at_once s b out n h
 
   -- where none holds, the lowest record refused alone gives number and place
-  pub the_lowest_record_refuses : (n i : ℕ) → refusal (tick_grounds s b out) ≡ none → LowestRefused (view s) (records b) n i → g s b out ≡ held s out (Refused n i)
+  pub the_lowest_record_refuses : (n : Refusal) (i : ℕ) → refusal (tick_grounds s b out) ≡ None → LowestRefused (view s) (records b) n i → g s b out ≡ held s out (Refused n i)
   the_lowest_record_refuses n i h r = meets s b out w ∙ refused_by_one s b out n i h r
 
   -- where no record is refused alone, the lowest conflicting pair gives both places
@@ -87,17 +91,17 @@ module _ (g : Tick) (meets : MeetsTick g) (s : State) (b out : List ℕ) (w : Le
   otherwise_accepted a = meets s b out w ∙ is_ticked s b out a
 
   -- and back, from the answer alone: nothing else is answered so
-  pub refused_only_so : (n i : ℕ) → (g s b out).answer ≡ Refused n i → Culprit s b out n i
+  pub refused_only_so : (n : Refusal) (i : ℕ) → (g s b out).answer ≡ Err (Refused n i) → Culprit s b out n i
   refused_only_so n i h = true_culprit s b out n i (answered h)
 
-  pub in_conflict_only_so : (i j : ℕ) → (g s b out).answer ≡ Conflict i j → CulpritPair s b out i j
+  pub in_conflict_only_so : (i j : ℕ) → (g s b out).answer ≡ Err (Conflict i j) → CulpritPair s b out i j
   in_conflict_only_so i j h = true_conflict s b out i j (answered h)
 
-  pub accepted_only_so : (g s b out).answer ≡ Accepted → Acceptable s b out
+  pub accepted_only_so : (g s b out).answer ≡ Ok tt → Acceptable s b out
   accepted_only_so h = was_acceptable s b out (answered h)
 
   -- what is not accepted leaves the state and the answer list
-  pub a_refused_tick_changes_nothing : ((g s b out).answer ≡ Accepted → ⊥) → ((g s b out).state ≡ s) × ((g s b out).answers ≡ out)
+  pub a_refused_tick_changes_nothing : ((g s b out).answer ≡ Ok tt → ⊥) → ((g s b out).state ≡ s) × ((g s b out).answers ≡ out)
   a_refused_tick_changes_nothing refused =
       let q = meets s b out w in
       let h = q ∙ tick_held s b out (λ k. refused (ap (λ (t : Ticked). t.answer) q ∙ k)) in
@@ -106,11 +110,11 @@ module _ (g : Tick) (meets : MeetsTick g) (s : State) (b out : List ℕ) (w : Le
 -- ---- the empty tick
 
 -- from every sound state it is accepted and changes nothing
-pub an_empty_tick_changes_nothing : (g : Tick) → MeetsTick g → (s : State) (out : List ℕ) → Lent s [] out → sound s ≡ true → g s [] out ≡ held s out Accepted
+pub an_empty_tick_changes_nothing : (g : Tick) → MeetsTick g → (s : State) (out : List ℕ) → Lent s [] out → sound s ≡ true → g s [] out ≡ unchanged s out (Ok tt)
 unfolding records parts end_of values_of
 an_empty_tick_changes_nothing g meets s out w h =
     let a : Acceptable s [] out = record {
       no_ground = (no_tick_ground s [] out).1 (record { is_sound = h; whole = omega arith; few = omega arith; places = omega arith });
       orderly = record { events = []; known = refl; agreeing = record { alone = tt; apart = tt } };
     } in
-    otherwise_accepted g meets s [] out w a ∙ ap (λ (u : State). held u out Accepted) (sym (sound_is_packed s w.handed.shaped h))
+    otherwise_accepted g meets s [] out w a ∙ ap (λ (u : State). unchanged u out (Ok tt)) (sym (sound_is_packed s w.handed.shaped h))

@@ -6,7 +6,7 @@ use mathlib.Core.Path.{◌≡◌, refl, sym, ap, subst, ◌∙◌}
 use mathlib.Core.Logic.{◌≢◌, ◌⊎◌, inl, inr, ⊎_elim}
 use mathlib.Core.List.{List}
 use mathlib.Core.Bool.{Bool, true, false, ◌&&◌, ◌||◌}
-use mathlib.Core.Option.{Option, none, some}
+use Rattle.std.specs.Prelude.{Option, None, Some}
 use lib.Dec.{eqb}
 use borrow.Author.Tests.{eqb-true, eq-eqb}
 use Rattle.base.specs.Lists.{find}
@@ -93,7 +93,7 @@ one_name K L x e h k =
 
 -- ---- both are there and alike, either way round
 
-meets : {A B : Type 0} (same : A → B → Bool) {o : Option A} {q : Option B} {x : A} {y : B} → o ≡ some x → q ≡ some y → same x y ≡ true
+meets : {A B : Type 0} (same : A → B → Bool) {o : Option A} {q : Option B} {x : A} {y : B} → o ≡ Some x → q ≡ Some y → same x y ≡ true
     → alike same o q ≡ false → ⊥
 unfolding alike
 meets same {x = x} {y = y} p q t h = both (same x y) t (rw (p, q) at h)
@@ -101,10 +101,10 @@ meets same {x = x} {y = y} p q t h = both (same x y) t (rw (p, q) at h)
 alike_back : {A : Type 0} (same : A → A → Bool) → ((x y : A) → same x y ≡ true → same y x ≡ true) → (o q : Option A)
     → alike same o q ≡ false → alike same q o ≡ false
 unfolding alike
-alike_back same t none none h = refl
-alike_back same t none (some y) h = refl
-alike_back same t (some x) none h = refl
-alike_back same t (some x) (some y) h = split (same y x) (λ k. absurd (both (same x y) (t y x k) h)) (λ k. k)
+alike_back same t None None h = refl
+alike_back same t None (Some y) h = refl
+alike_back same t (Some x) None h = refl
+alike_back same t (Some x) (Some y) h = split (same y x) (λ k. absurd (both (same x y) (t y x k) h)) (λ k. k)
 
 number_back : (m n : ℕ) → eqb m n ≡ true → eqb n m ≡ true
 number_back m n h = eq-eqb n m (sym (eqb-true m n h))
@@ -141,43 +141,43 @@ module _ (s : Net) where
   pub record Younger (K : Name) : Type 0 where
     pub is_C : K.kind ≡ C
     pub oldest : Entry
-    pub there : find (is_kind C) (waiting s K.channel) ≡ some oldest
+    pub there : find (is_kind C) (waiting s K.channel) ≡ Some oldest
     pub other : is_name K oldest ≡ false
 
   -- who may rest on the entry named K, or change it: on its bus, or dropping it
   pub data Uses (e : Footing) (K : Name) : Type 0 where
-    on_bus : e.bus ≡ some (out_bus s.table K.channel) → (K.kind ≡ R → e.tries ≡ some K) → (K.kind ≡ C → e.takes ≡ some K.channel)
+    on_bus : e.bus ≡ Some (out_bus s.table K.channel) → (K.kind ≡ R → e.tries ≡ Some K) → (K.kind ≡ C → e.takes ≡ Some K.channel)
         → Uses e K
-    by_drop : e.drops ≡ some K → (K.kind ≡ R) ⊎ Younger K → Uses e K
+    by_drop : e.drops ≡ Some K → (K.kind ≡ R) ⊎ Younger K → Uses e K
 
   -- who may add to channel X: its master, or who occurs on its in-bus
   pub data Gives (e : Footing) (X : Chan) : Type 0 where
-    by_begin : (m : Agent) → e.beginner ≡ some m → X ≡ master_channel m → in_bus s.table X ≡ none → Gives e X
-    into_bus : (b : Bus) → e.bus ≡ some b → in_bus s.table X ≡ some b → Gives e X
+    by_begin : (m : Agent) → e.beginner ≡ Some m → X ≡ master_channel m → in_bus s.table X ≡ None → Gives e X
+    into_bus : (b : Bus) → e.bus ≡ Some b → in_bus s.table X ≡ Some b → Gives e X
 
   -- a C that is added answers an R in the opposite channel
   abbrev pub Answers : Chan → Entry → Type 0
-  Answers X x = x.kind ≡ C → (y : Entry) × (find (is_named R x.transaction) (waiting s (opposite s.table X)) ≡ some y)
+  Answers X x = x.kind ≡ C → (y : Entry) × (find (is_named R x.transaction) (waiting s (opposite s.table X)) ≡ Some y)
 
   pub data Does (e : Footing) : Deed → Type 0 where
     adds : {X : Chan} {x y : Entry} → Gives e X → Answers X x → Does e (add X x, y)
     changes : (K : Name) {f : Entry → List Entry} {x : Entry} → Uses e K → Change f → is_name K x ≡ true → Does e (change K.channel (is_name K) f, x)
-    raises : {a : Agent} {y : Entry} → e.beginner ≡ some a → Does e (raise a, y)
+    raises : {a : Agent} {y : Entry} → e.beginner ≡ Some a → Does e (raise a, y)
 
   pub data Asks (e : Footing) : Guard → Type 0 where
     of_name : (K : Name) {p : Entry → Bool} {x : Entry} → Uses e K → is_name K x ≡ true → Blind p → Asks e (has K.channel p x)
-    of_oldest : (K : Name) {x : Entry} → e.drops ≡ some K → K.kind ≡ C → find (is_kind C) (waiting s K.channel) ≡ some x
+    of_oldest : (K : Name) {x : Entry} → e.drops ≡ Some K → K.kind ≡ C → find (is_kind C) (waiting s K.channel) ≡ Some x
         → Asks e (has K.channel (is_kind C) x)
     none_ahead : {X : Chan} {p : Entry → Bool} → Gives e X → Blind p → Asks e (absent X p)
-    no_answer : (X : Chan) (t : Transaction) → find (is_named R t) (waiting s (opposite s.table X)) ≡ none → Asks e (absent X (is_named C t))
+    no_answer : (X : Chan) (t : Transaction) → find (is_named R t) (waiting s (opposite s.table X)) ≡ None → Asks e (absent X (is_named C t))
     of_room : {X : Chan} {r : Room} → Gives e X → Blind r.holds → Asks e (room X r)
-    of_count : {a : Agent} {n : ℕ} → e.beginner ≡ some a → Asks e (counted a n)
+    of_count : {a : Agent} {n : ℕ} → e.beginner ≡ Some a → Asks e (counted a n)
 
   -- ---- no right is shared
 
   -- what is dropped is neither tried nor taken
   dropped_alone : (e f : Footing) (K : Name) → drops_the_tried e f ≡ false → drops_where_taken e f ≡ false
-      → (K.kind ≡ R → f.tries ≡ some K) → (K.kind ≡ C → f.takes ≡ some K.channel) → e.drops ≡ some K → (K.kind ≡ R) ⊎ Younger K → ⊥
+      → (K.kind ≡ R → f.tries ≡ Some K) → (K.kind ≡ C → f.takes ≡ Some K.channel) → e.drops ≡ Some K → (K.kind ≡ R) ⊎ Younger K → ⊥
   dropped_alone e f K n m t c d (inl k) = meets same_name d (t k) (same_name_one K) n
   dropped_alone e f K n m t c d (inr y) =
       meets is_C_of d (c y.is_C) (rw (eq-eqb K.kind C y.is_C) (same_number K.channel.0)) m
@@ -196,10 +196,10 @@ module _ (s : Net) where
   give_alone e f X Y n (into_bus b q i) (into_bus c p j) d =
       meets same_bus q p (eq-eqb b.0 c.0 (same_bus_number b c (sym (rw d at i) ∙ j))) n.buses
     where
-      same_bus_number : (a b : Bus) → some a ≡ some b → a.0 ≡ b.0
+      same_bus_number : (a b : Bus) → Some a ≡ Some b → a.0 ≡ b.0
       same_bus_number a b h = let k : a ≡ b = cc in ap (λ (c : Bus). c.0) k
 
-  begin_alone : (e f : Footing) (a b : Agent) → Peace e f → e.beginner ≡ some a → f.beginner ≡ some b → a ≢ b
+  begin_alone : (e f : Footing) (a b : Agent) → Peace e f → e.beginner ≡ Some a → f.beginner ≡ Some b → a ≢ b
   begin_alone e f a b n p q d = meets same_agent p q (eq-eqb a.0 b.0 (ap (λ (m : Agent). m.0) d)) n.beginners
 
   -- another channel, or not: then what would follow does not
@@ -240,20 +240,20 @@ module _ (s : Net) where
   -- ---- guards of f, edits of e
 
   -- the oldest C of a channel that f drops a C of is not what e changes
-  oldest_alone : (f e : Footing) (K L : Name) (x : Entry) → Peace f e → f.drops ≡ some K → K.kind ≡ C
-      → find (is_kind C) (waiting s K.channel) ≡ some x → K.channel ≡ L.channel → is_name L x ≡ true → L.kind ≡ C → Uses e L → ⊥
+  oldest_alone : (f e : Footing) (K L : Name) (x : Entry) → Peace f e → f.drops ≡ Some K → K.kind ≡ C
+      → find (is_kind C) (waiting s K.channel) ≡ Some x → K.channel ≡ L.channel → is_name L x ≡ true → L.kind ≡ C → Uses e L → ⊥
   oldest_alone f e K L x n d k h q t j (on_bus b r c) =
       meets is_C_of d (c j) (rw (eq-eqb K.kind C k, q) (same_number L.channel.0)) n.emptied
   oldest_alone f e K L x n d k h q t j (by_drop p (inl r)) = omega arith
   oldest_alone f e K L x n d k h q t j (by_drop p (inr y)) =
-      let w : find (is_kind C) (waiting s L.channel) ≡ some x = subst (λ (X : Chan). find (is_kind C) (waiting s X) ≡ some x) q h in
+      let w : find (is_kind C) (waiting s L.channel) ≡ Some x = subst (λ (X : Chan). find (is_kind C) (waiting s X) ≡ Some x) q h in
       both (is_name L x) t (subst (λ (c : Entry). is_name L c ≡ false) (same_found y.there w) y.other)
     where
-      same_found : {o : Option Entry} {a b : Entry} → o ≡ some a → o ≡ some b → a ≡ b
+      same_found : {o : Option Entry} {a b : Entry} → o ≡ Some a → o ≡ Some b → a ≡ b
       same_found p q = cc
 
   -- what is named L and is the oldest C is a C
-  named_C : (N : Chan) (L : Name) (x : Entry) → find (is_kind C) (waiting s N) ≡ some x → is_name L x ≡ true → L.kind ≡ C
+  named_C : (N : Chan) (L : Name) (x : Entry) → find (is_kind C) (waiting s N) ≡ Some x → is_name L x ≡ true → L.kind ≡ C
   named_C N L x h t = sym (named_is_its_own L.kind L.transaction x t).0 ∙ eqb-true x.kind C (found_passes (is_kind C) (waiting s N) h)
 
   pub guard_safe : (f e : Footing) (g : Guard) (a : Deed) → Peace f e → Asks f g → Does e a → Safe g a.0
@@ -274,8 +274,8 @@ module _ (s : Net) where
       (λ c k.
       let q = named_is_its_own C t x k in
       let y = o q.0 in
-      none_some (subst (λ (Z : Chan). find (is_named R t) (waiting s (opposite s.table Z)) ≡ none) c h)
-      (subst (λ (u : Transaction). find (is_named R u) (waiting s (opposite s.table Y)) ≡ some y.0) q.1 y.1))
+      none_some (subst (λ (Z : Chan). find (is_named R t) (waiting s (opposite s.table Z)) ≡ None) c h)
+      (subst (λ (u : Transaction). find (is_named R u) (waiting s (opposite s.table Y)) ≡ Some y.0) q.1 y.1))
   guard_safe f e g a n (no_answer X t h) (changes L u c k) = quiet (is_named C t) (named_blind C t) c
   guard_safe f e g a n (no_answer X t h) (raises d) = tt
   guard_safe f e g a n (of_room {X = X} v b) (adds {X = Y} w o) = give_alone f e X Y n v w

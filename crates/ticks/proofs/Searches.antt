@@ -2,23 +2,24 @@
 -- Each by going down the list; what is not found at the front is found behind it, one place later.
 use Prim.Native.Nat.{ℕ, zero, suc, ◌+◌, ◌<◌}
 use native.Mathlib.Omega.{arith}
-use mathlib.Core.Path.{◌≡◌, refl, ap, ◌∙◌}
+use mathlib.Core.Path.{◌≡◌, refl, sym, ap, ◌∙◌}
 use mathlib.Core.Logic.{◌⊎◌, inl, inr, ◌↔◌}
 use mathlib.Core.Bool.{true, false}
 use mathlib.Core.List.{List, [], ◌∷◌, map}
-use mathlib.Core.Option.{none, some}
+use Rattle.std.specs.Prelude.{None, Some}
 use lib.ListN.{length, get_or}
 use Rattle.base.specs.Grounds.{refusal}
-use Rattle.base.proofs.Logic.{split, there, none_some}
+use Rattle.base.specs.declared.Refusal.{Refusal}
+use Rattle.base.specs.declared.Refusal.TheVariants.{UnfitRecord}
+use Rattle.base.proofs.Logic.{split, there, none_some, some_same}
 use Rattle.base.proofs.Orders.{All, Pairwise, all_at, at_all}
 use Rattle.network.specs.Nets.{Net}
+use Rattle.events.specs.Records.{Decoded}
 use Rattle.events.specs.declared.Event.{Event}
-use Rattle.events.specs.declared.Decoded.{Decoded}
-use Rattle.events.specs.declared.Decoded.TheVariants.{Known, Unfit}
 use Rattle.events.specs.Grounds.{Accepted}
 use Rattle.events.specs.Steps.{record_grounds}
-use Rattle.ticks.specs.declared.TickAnswer.{TickAnswer}
-use Rattle.ticks.specs.declared.TickAnswer.TheVariants.{Refused, Conflict}
+use Rattle.ticks.specs.declared.TickRefusal.{TickRefusal}
+use Rattle.ticks.specs.declared.TickRefusal.TheVariants.{Refused, Conflict}
 use Rattle.ticks.specs.Conflicts.{conflict}
 use Rattle.ticks.specs.Ticks.{known, first_refused, partner, first_pair}
 use Rattle.ticks.proofs.Judged.{EachAlone}
@@ -26,26 +27,26 @@ use Rattle.ticks.proofs.Diamond.{Peaceful}
 
 -- ---- records that are all known, and accepted alone
 
-pub known_all : (es : List Event) → known (map Known es) ≡ es
+pub known_all : (es : List Event) → known (map Some es) ≡ es
 unfolding known
 known_all [] = refl
 known_all (e ∷ es) = ap (e ∷◌) (known_all es)
 
 -- what is accepted alone is known
-pub each_known : (s : Net) (ds : List Decoded) → EachAlone s ds → (es : List Event) × (ds ≡ map Known es) × All (Accepted s) es
+pub each_known : (s : Net) (ds : List Decoded) → EachAlone s ds → (es : List Event) × (ds ≡ map Some es) × All (Accepted s) es
 unfolding record_grounds
 each_known s [] h = ([], refl, tt)
-each_known s (Unfit ∷ ds) h = absurd (none_some {a = 1} h.0 refl)
-each_known s (Known e ∷ ds) h = let r = each_known s ds h.1 in (e ∷ r.0, ap (Known e ∷◌) r.1, (h.0, r.2))
+each_known s (None ∷ ds) h = absurd (none_some {a = UnfitRecord} h.0 refl)
+each_known s (Some e ∷ ds) h = let r = each_known s ds h.1 in (e ∷ r.0, ap (Some e ∷◌) r.1, (h.0, r.2))
 
-pub refuses_none : (s : Net) (i : ℕ) (es : List Event) → All (Accepted s) es → first_refused s i (map Known es) ≡ none
+pub refuses_none : (s : Net) (i : ℕ) (es : List Event) → All (Accepted s) es → first_refused s i (map Some es) ≡ None
 unfolding first_refused record_grounds
 refuses_none s i [] h = refl
 refuses_none s i (e ∷ es) h = rw (h.0, first_refused) (refuses_none s (suc i) es h.1)
 
 -- ---- no two in conflict
 
-partner_none : (s : Net) (e : Event) (j : ℕ) (fs : List Event) → (partner s e j fs ≡ none) ↔ All (Peaceful s e) fs
+partner_none : (s : Net) (e : Event) (j : ℕ) (fs : List Event) → (partner s e j fs ≡ None) ↔ All (Peaceful s e) fs
 unfolding partner
 partner_none s e j [] = (λ _. tt, λ _. refl)
 partner_none s e j (f ∷ fs) = (
@@ -55,7 +56,7 @@ partner_none s e j (f ∷ fs) = (
   λ a. rw (a.0, partner) ((partner_none s e (suc j) fs).1 a.1),
 )
 
-pub pair_none : (s : Net) (i : ℕ) (es : List Event) → (first_pair s i es ≡ none) ↔ Pairwise (λ e f. conflict s e f ≡ false) es
+pub pair_none : (s : Net) (i : ℕ) (es : List Event) → (first_pair s i es ≡ None) ↔ Pairwise (λ e f. conflict s e f ≡ false) es
 unfolding first_pair
 pair_none s i [] = (λ _. tt, λ _. refl)
 pair_none s i (e ∷ es) = (
@@ -68,24 +69,24 @@ pair_none s i (e ∷ es) = (
 -- ---- the lowest record refused alone
 
 -- the record at `place` is refused for `number`, and none before it
-pub record LowestRefused (s : Net) (ds : List Decoded) (number place : ℕ) : Type 0 where
+pub record LowestRefused (s : Net) (ds : List Decoded) (number : Refusal) (place : ℕ) : Type 0 where
   -- there is such a record
   pub in_list : place < length ds
   -- alone in s, `number` is the first ground that holds of it
-  pub refused : refusal (record_grounds s (get_or ds place Unfit)) ≡ some number
+  pub refused : refusal (record_grounds s (get_or ds place None)) ≡ Some number
   -- every record before it is accepted alone in s
-  pub before : (j : ℕ) → j < place → refusal (record_grounds s (get_or ds j Unfit)) ≡ none
+  pub before : (j : ℕ) → j < place → refusal (record_grounds s (get_or ds j None)) ≡ None
 
-refused_later : (s : Net) (d : Decoded) (ds : List Decoded) (n i : ℕ) → refusal (record_grounds s d) ≡ none → LowestRefused s ds n i
+refused_later : (s : Net) (d : Decoded) (ds : List Decoded) (n : Refusal) (i : ℕ) → refusal (record_grounds s d) ≡ None → LowestRefused s ds n i
     → LowestRefused s (d ∷ ds) n (suc i)
 refused_later s d ds n i h r = record { in_list = omega (arith, r.in_list); refused = r.refused; before = earlier }
   where
-    earlier : (j : ℕ) → j < suc i → refusal (record_grounds s (get_or (d ∷ ds) j Unfit)) ≡ none
+    earlier : (j : ℕ) → j < suc i → refusal (record_grounds s (get_or (d ∷ ds) j None)) ≡ None
     earlier zero k = h
     earlier (suc j) k = r.before j (omega arith)
 
-pub finds_refused : (s : Net) (i : ℕ) (ds : List Decoded) (a : TickAnswer) → first_refused s i ds ≡ some a
-    → (n k : ℕ) × (a ≡ Refused n (i + k)) × LowestRefused s ds n k
+pub finds_refused : (s : Net) (i : ℕ) (ds : List Decoded) (a : TickRefusal) → first_refused s i ds ≡ Some a
+    → (n : Refusal) × (k : ℕ) × (a ≡ Refused n (i + k)) × LowestRefused s ds n k
 unfolding first_refused
 finds_refused s i [] a h = absurd (none_some {a = a} refl h)
 finds_refused s i (d ∷ ds) a h =
@@ -94,18 +95,18 @@ finds_refused s i (d ∷ ds) a h =
     let r = finds_refused s (suc i) ds a (rw (n, first_refused) at h) in
     (r.0, suc r.1, r.2 ∙ ap (Refused r.0) (omega arith), refused_later s d ds r.0 r.1 n r.3))
     (λ n k.
-    let z : a ≡ Refused n i = cc (rw (k, first_refused) at h) in
-    (n, 0, z ∙ ap (Refused n) (omega arith), record { in_list = omega arith; refused = k; before = λ j l. absurd (omega arith) }))
+    let z = some_same (Refused n i) a (rw (k, first_refused) at h) in
+    (n, 0, sym z ∙ ap (Refused n) (omega arith), record { in_list = omega arith; refused = k; before = λ j l. absurd (omega arith) }))
 
-pub refused_is_found : (s : Net) (i : ℕ) (ds : List Decoded) (n k : ℕ) → LowestRefused s ds n k → first_refused s i ds ≡ some (Refused n (i + k))
+pub refused_is_found : (s : Net) (i : ℕ) (ds : List Decoded) (n : Refusal) (k : ℕ) → LowestRefused s ds n k → first_refused s i ds ≡ Some (Refused n (i + k))
 unfolding first_refused
 refused_is_found s i [] n k r = absurd (omega (arith, r.in_list))
-refused_is_found s i (d ∷ ds) n zero r = rw (r.refused, first_refused) (ap (λ (j : ℕ). some (Refused n j)) (omega arith))
+refused_is_found s i (d ∷ ds) n zero r = rw (r.refused, first_refused) (ap (λ (j : ℕ). Some (Refused n j)) (omega arith))
 refused_is_found s i (d ∷ ds) n (suc k) r =
     rw (r.before zero (omega arith), first_refused)
     (refused_is_found s (suc i) ds n k
     (record { in_list = omega (arith, r.in_list); refused = r.refused; before = λ j l. r.before (suc j) (omega arith) })
-    ∙ ap (λ (j : ℕ). some (Refused n j)) (omega arith))
+    ∙ ap (λ (j : ℕ). Some (Refused n j)) (omega arith))
 
 -- ---- the lowest conflicting pair
 
@@ -116,7 +117,7 @@ module _ (s : Net) (d : Event) where
     conflicts : conflict s e (get_or fs other d) ≡ true
     before : (j : ℕ) → j < other → conflict s e (get_or fs j d) ≡ false
 
-  finds_partner : (e : Event) (i : ℕ) (fs : List Event) (j : ℕ) → partner s e i fs ≡ some j → (k : ℕ) × (j ≡ i + k) × LowestPartner e fs k
+  finds_partner : (e : Event) (i : ℕ) (fs : List Event) (j : ℕ) → partner s e i fs ≡ Some j → (k : ℕ) × (j ≡ i + k) × LowestPartner e fs k
   unfolding partner
   finds_partner e i [] j h = absurd (none_some {a = j} refl h)
   finds_partner e i (f ∷ fs) j h =
@@ -133,15 +134,15 @@ module _ (s : Net) (d : Event) where
       earlier k t b zero m = t
       earlier k t b (suc l) m = b l (omega arith)
 
-  partner_is_found : (e : Event) (i : ℕ) (fs : List Event) (k : ℕ) → LowestPartner e fs k → partner s e i fs ≡ some (i + k)
+  partner_is_found : (e : Event) (i : ℕ) (fs : List Event) (k : ℕ) → LowestPartner e fs k → partner s e i fs ≡ Some (i + k)
   unfolding partner
   partner_is_found e i [] k r = absurd (omega (arith, r.in_list))
-  partner_is_found e i (f ∷ fs) zero r = rw (r.conflicts, partner) (ap some (omega arith))
+  partner_is_found e i (f ∷ fs) zero r = rw (r.conflicts, partner) (ap Some (omega arith))
   partner_is_found e i (f ∷ fs) (suc k) r =
       rw (r.before zero (omega arith), partner)
       (partner_is_found e (suc i) fs k
       (record { in_list = omega (arith, r.in_list); conflicts = r.conflicts; before = λ j l. r.before (suc j) (omega arith) })
-      ∙ ap some (omega arith))
+      ∙ ap Some (omega arith))
 
   -- the pair (k, l) comes before the pair (i, j)
   abbrev pub Before : ℕ → ℕ → ℕ → ℕ → Type 0
@@ -191,7 +192,7 @@ module _ (s : Net) (d : Event) where
   places : {k l m n : ℕ} → k ≡ m → l ≡ n → Conflict k l ≡ Conflict m n
   places p q = λ x. Conflict (p x) (q x)
 
-  pub finds_pair : (i : ℕ) (es : List Event) (a : TickAnswer) → first_pair s i es ≡ some a
+  pub finds_pair : (i : ℕ) (es : List Event) (a : TickRefusal) → first_pair s i es ≡ Some a
       → (k l : ℕ) × (a ≡ Conflict (i + k) (i + l)) × LowestPair es k l
   unfolding first_pair
   finds_pair i [] a h = absurd (none_some {a = a} refl h)
@@ -201,11 +202,11 @@ module _ (s : Net) (d : Event) where
       let r = finds_pair (suc i) es a (rw (n, first_pair) at h) in
       (suc r.0, suc r.1, r.2 ∙ places (omega arith) (omega arith), pair_later e es r.0 r.1 ((partner_none s e (suc i) es).0 n) r.3))
       (λ j n.
-      let z : a ≡ Conflict i j = cc (rw (n, first_pair) at h) in
+      let z = sym (some_same (Conflict i j) a (rw (n, first_pair) at h)) in
       let r = finds_partner e (suc i) es j n in
       (0, suc r.0, z ∙ places (omega arith) (omega (arith, r.1)), pair_here e es r.0 r.2))
 
-  pub pair_is_found : (i : ℕ) (es : List Event) (k l : ℕ) → LowestPair es k l → first_pair s i es ≡ some (Conflict (i + k) (i + l))
+  pub pair_is_found : (i : ℕ) (es : List Event) (k l : ℕ) → LowestPair es k l → first_pair s i es ≡ Some (Conflict (i + k) (i + l))
   unfolding first_pair
   pair_is_found i [] k l r = absurd (omega (arith, r.in_list))
   pair_is_found i (e ∷ es) k zero r = absurd (omega (arith, r.in_order))
@@ -216,7 +217,7 @@ module _ (s : Net) (d : Event) where
         conflicts = r.conflicts;
         before = λ j h. r.before zero (suc j) (omega arith) (omega (arith, r.in_list)) (inr (refl, omega arith));
       }) in
-      rw (p, first_pair) (ap some (places (omega arith) (omega arith)))
+      rw (p, first_pair) (ap Some (places (omega arith) (omega arith)))
   pair_is_found i (e ∷ es) (suc k) (suc l) r =
       let n = (partner_none s e (suc i) es).1 (at_all (Peaceful s e) d es (λ j h. r.before zero (suc j) (omega arith) (omega arith) (inl (omega arith)))) in
       rw (n, first_pair)
@@ -227,7 +228,7 @@ module _ (s : Net) (d : Event) where
         conflicts = r.conflicts;
         before = λ m n p q c. r.before (suc m) (suc n) (omega arith) (omega arith) (farther m n c);
       })
-      ∙ ap some (places (omega arith) (omega arith)))
+      ∙ ap Some (places (omega arith) (omega arith)))
     where
       farther : (m n : ℕ) → Before m n k l → Before (suc m) (suc n) (suc k) (suc l)
       farther m n (inl a) = inl (omega arith)

@@ -6,7 +6,7 @@ use mathlib.Core.Path.{◌≡◌, refl, sym, ap, subst, subst⁻¹, ◌∙◌}
 use mathlib.Core.Logic.{◌↔◌}
 use mathlib.Core.Bool.{true}
 use mathlib.Core.List.{List, [], ◌∷◌, ◌++◌, map}
-use mathlib.Core.Option.{none}
+use Rattle.std.specs.Prelude.{None, Some, Ok}
 use lib.ListN.{length, drop, length-take, length-drop}
 use Rattle.base.specs.Lists.{parts}
 use Rattle.base.specs.Grounds.{refusal}
@@ -19,18 +19,15 @@ use Rattle.network.specs.Shapes.{Shaped}
 use Rattle.network.proofs.Good.{sound_is_good}
 use Rattle.network.proofs.Packing.{sound_is_packed, view_pack}
 use Rattle.events.specs.declared.Event.{Event}
-use Rattle.events.specs.declared.Decoded.TheVariants.{Known}
-use Rattle.events.specs.declared.Answer.TheVariants as step-answer
 use Rattle.events.specs.declared.Outcome.{Outcome}
 use Rattle.events.specs.Records.{decoded, records}
-use Rattle.events.specs.Grounds.{Accepted}
 use Rattle.events.specs.Effects.{value, after}
 use Rattle.events.specs.Steps.{inner_step, record_step, step}
 use Rattle.events.proofs.TakenSteps.{inner_is}
 use Rattle.events.proofs.SoundStays.{Right, sound_stays_sound, shaped_stays_shaped, step_is}
-use Rattle.ticks.specs.declared.TickAnswer.{TickAnswer}
-use Rattle.ticks.specs.declared.TickAnswer.TheVariants as tick-answer
-use Rattle.ticks.specs.Ticks.{known, end_of, values_of, Ticked, ticked, tick_grounds, tick}
+use Rattle.ticks.specs.declared.TickRefusal.TheVariants.{Refused, Conflict}
+use Rattle.ticks.specs.Ticks.{end_of, values_of, Ticked, ticked, tick_grounds, tick, TickAnswer}
+use Rattle.ticks.proofs.Judged.{never}
 use Rattle.ticks.proofs.OrderCannotMatter.{Played, at_end, one_more, Agreeing, in_listed_order, order_cannot_matter}
 use Rattle.ticks.proofs.Reordered.{Reordered}
 use Rattle.ticks.proofs.Searches.{refuses_none}
@@ -42,7 +39,7 @@ use Rattle.ticks.proofs.Verdicts.{alone, tick_is_by, plays_by, Verdict, at_once,
 -- each of these inputs is accepted in the state that the one before it hands back, with these values, and the last hands back this state
 pub data Stepped {A : Type 0} (by : State → A → Outcome) : State → List A → List ℕ → State → Type 0 where
   no_step : {s : State} → Stepped by s [] [] s
-  a_step : {s u : State} {a : A} {l : List A} {v : ℕ} {vs : List ℕ} → (by s a).answer ≡ step-answer.Accepted v
+  a_step : {s u : State} {a : A} {l : List A} {v : ℕ} {vs : List ℕ} → (by s a).answer ≡ Ok v
       → Stepped by (by s a).state l vs u → Stepped by s (a ∷ l) (v ∷ vs) u
 
 -- in a sound state each input steps as its event does
@@ -72,13 +69,13 @@ inner_like : (es : List Event) → StepLike inner_step es es
 inner_like [] = tt
 inner_like (e ∷ es) = (λ s h. refl, inner_like es)
 
-pub bytes_like : (rs : List (List ℕ)) (es : List Event) → All (λ r. length r ≡ 8) rs → map decoded rs ≡ map Known es → StepLike step rs es
+pub bytes_like : (rs : List (List ℕ)) (es : List Event) → All (λ r. length r ≡ 8) rs → map decoded rs ≡ map Some es → StepLike step rs es
 bytes_like [] [] a q = tt
 bytes_like [] (e ∷ es) a q = let z : ◌≡◌ {A = ℕ} 0 1 = cc in omega arith
 bytes_like (r ∷ rs) [] a q = let z : ◌≡◌ {A = ℕ} 0 1 = cc in omega arith
 bytes_like (r ∷ rs) (e ∷ es) a q =
-    let d : decoded r ≡ Known e = cc in
-    let k : map decoded rs ≡ map Known es = cc in
+    let d : decoded r ≡ Some e = cc in
+    let k : map decoded rs ≡ map Some es = cc in
     (λ s h. step_is s r h a.0 ∙ ap (record_step s) d, bytes_like rs es a.1 k)
 
 -- where what is played leads, the state is right again
@@ -105,13 +102,13 @@ played_values s u (e ∷ es) _ (one_more {vs = vs} ok p) = ap (value s e ∷◌)
 -- the records of the bytes are these events: all are known, each is accepted alone, no two conflict
 pub record Orderly (s : Net) (b : List ℕ) : Type 0 where
   pub events : List Event
-  pub known : records b ≡ map Known events
+  pub known : records b ≡ map Some events
   pub agreeing : Agreeing s events
 
 -- nothing stands against the tick
 pub record Acceptable (s : State) (b out : List ℕ) : Type 0 where
   -- neither 16 nor 18 nor 17 holds
-  pub no_ground : refusal (tick_grounds s b out) ≡ none
+  pub no_ground : refusal (tick_grounds s b out) ≡ None
   -- the records are known events, each is accepted alone and no two conflict
   pub orderly : Orderly (view s) b
 
@@ -136,13 +133,13 @@ module _ (s : State) (b out : List ℕ) where
       tick_is_by s b out
       ∙ plays_by alone ticked s b out o.events a.no_ground o.known (refuses_none (view s) 0 o.events o.agreeing.alone) o.agreeing.apart
 
-  pub was_acceptable : (tick s b out).answer ≡ tick-answer.Accepted → Acceptable s b out
+  pub was_acceptable : (tick s b out).answer ≡ Ok tt → Acceptable s b out
   was_acceptable = by (tick s b out).answer (verdict s b out)
     where
-      by : (a : TickAnswer) → Verdict s b out a → a ≡ tick-answer.Accepted → Acceptable s b out
-      by _ (at_once n g) e = let z : ◌≡◌ {A = ℕ} 0 1 = cc in absurd (omega arith)
-      by _ (refused n i g r) e = let z : ◌≡◌ {A = ℕ} 0 1 = cc in absurd (omega arith)
-      by _ (conflicts i j es g w r) e = let z : ◌≡◌ {A = ℕ} 0 1 = cc in absurd (omega arith)
+      by : (a : TickAnswer) → Verdict s b out a → a ≡ Ok tt → Acceptable s b out
+      by _ (at_once n g) e = absurd (never (Refused n 0) e)
+      by _ (refused n i g r) e = absurd (never (Refused n i) e)
+      by _ (conflicts i j es g w r) e = absurd (never (Conflict i j) e)
       by _ (accepted es g w p) e = record { no_ground = g; orderly = record { events = es; known = w.known; agreeing = record { alone = w.alone; apart = p } } }
 
 module _ (s : State) (w : Shaped s) (h : sound s ≡ true) (b out : List ℕ)
@@ -150,7 +147,7 @@ module _ (s : State) (w : Shaped s) (h : sound s ≡ true) (b out : List ℕ)
   abbrev so : Orderly (view s) b → Acceptable s b out
   so o = record { no_ground = (no_tick_ground s b out).1 (record { is_sound = h; whole = whole; few = few; places = places }); orderly = o }
 
-  pub tick_accepts_exactly : ((tick s b out).answer ≡ tick-answer.Accepted) ↔ Orderly (view s) b
+  pub tick_accepts_exactly : ((tick s b out).answer ≡ Ok tt) ↔ Orderly (view s) b
   tick_accepts_exactly = (λ k. (was_acceptable s b out k).orderly, λ o. ap (λ (t : Ticked). t.answer) (is_ticked s b out (so o)))
 
   pub tick_ends : (o : Orderly (view s) b) → Ends s b out o.events

@@ -5,24 +5,22 @@ use native.Mathlib.Omega.{arith}
 use mathlib.Core.Path.{◌≡◌, refl, sym, ap, subst, subst⁻¹, ◌∙◌}
 use mathlib.Core.Bool.{false}
 use mathlib.Core.List.{List, map}
-use mathlib.Core.Option.{Option, none, some}
+use Rattle.std.specs.Prelude.{Option, None, Some, Ok, Err}
 use Rattle.base.specs.Grounds.{refusal}
+use Rattle.base.specs.declared.Refusal.{Refusal}
 use Rattle.base.proofs.Logic.{there}
 use Rattle.base.proofs.Orders.{All, Pairwise}
 use Rattle.chassis.specs.Numbers.{agent}
 use Rattle.network.specs.declared.State.{State}
 use Rattle.network.specs.Nets.{Net, view}
-use Rattle.events.specs.Records.{records}
+use Rattle.events.specs.Records.{records, Decoded}
 use Rattle.events.specs.declared.Event.{Event}
 use Rattle.events.specs.declared.Event.TheVariants.{BeginRead}
-use Rattle.events.specs.declared.Decoded.{Decoded}
-use Rattle.events.specs.declared.Decoded.TheVariants.{Known}
 use Rattle.events.specs.Grounds.{Accepted}
-use Rattle.ticks.specs.declared.TickAnswer.{TickAnswer}
-use Rattle.ticks.specs.declared.TickAnswer.TheVariants.{Refused, Conflict}
-use Rattle.ticks.specs.declared.TickAnswer.TheVariants as tick-answer
+use Rattle.ticks.specs.declared.TickRefusal.{TickRefusal}
+use Rattle.ticks.specs.declared.TickRefusal.TheVariants.{Refused, Conflict}
 use Rattle.ticks.specs.Conflicts.{conflict}
-use Rattle.ticks.specs.Ticks.{known, first_refused, first_pair, Ticked, held, ticked, tick_grounds, judged, tick}
+use Rattle.ticks.specs.Ticks.{known, first_refused, first_pair, Ticked, held, ticked, tick_grounds, judged, tick, TickAnswer}
 use Rattle.ticks.proofs.Judged.{none_refused}
 use Rattle.ticks.proofs.Searches.{known_all, each_known, pair_none, LowestRefused, finds_refused, LowestPair, finds_pair}
 
@@ -31,21 +29,21 @@ use Rattle.ticks.proofs.Searches.{known_all, each_known, pair_none, LowestRefuse
 abbrev pub Tick : Type 0
 Tick = State → List ℕ → List ℕ → Ticked
 
-unfoldable pub tick_by : (Net → List Decoded → Option TickAnswer) → (State → List ℕ → List Event → Ticked) → Tick
+unfoldable pub tick_by : (Net → List Decoded → Option TickRefusal) → (State → List ℕ → List Event → Ticked) → Tick
 tick_by judges plays s b out =
     elim (refusal (tick_grounds s b out)) [
-      | some n ↦ held s out (Refused n 0)
-      | none ↦ elim (judges (view s) (records b)) [
-        | some a ↦ held s out a
-        | none ↦ elim (first_pair (view s) 0 (known (records b))) [
-          | some a ↦ held s out a
-          | none ↦ plays s out (known (records b))
+      | Some n ↦ held s out (Refused n 0)
+      | None ↦ elim (judges (view s) (records b)) [
+        | Some a ↦ held s out a
+        | None ↦ elim (first_pair (view s) 0 (known (records b))) [
+          | Some a ↦ held s out a
+          | None ↦ plays s out (known (records b))
         ]
       ]
     ]
 
 -- each record judged alone in the starting state
-abbrev pub alone : Net → List Decoded → Option TickAnswer
+abbrev pub alone : Net → List Decoded → Option TickRefusal
 alone s ds = first_refused s 0 ds
 
 pub tick_is_by : (s : State) (b out : List ℕ) → tick s b out ≡ tick_by alone ticked s b out
@@ -53,8 +51,8 @@ unfolding tick judged tick_by
 tick_is_by s b out = refl
 
 -- where neither grounds nor judges nor pairs object, it plays
-pub plays_by : (judges : Net → List Decoded → Option TickAnswer) (plays : State → List ℕ → List Event → Ticked) (s : State) (b out : List ℕ) (es : List Event)
-    → refusal (tick_grounds s b out) ≡ none → records b ≡ map Known es → judges (view s) (map Known es) ≡ none
+pub plays_by : (judges : Net → List Decoded → Option TickRefusal) (plays : State → List ℕ → List Event → Ticked) (s : State) (b out : List ℕ) (es : List Event)
+    → refusal (tick_grounds s b out) ≡ None → records b ≡ map Some es → judges (view s) (map Some es) ≡ None
     → Pairwise (λ e f. conflict (view s) e f ≡ false) es → tick_by judges plays s b out ≡ plays s out es
 unfolding tick_by
 plays_by judges plays s b out es h k j n =
@@ -65,19 +63,19 @@ plays_by judges plays s b out es h k j n =
 
 -- records that are all known and each accepted alone
 pub record AllAlone (s : Net) (ds : List Decoded) (es : List Event) : Type 0 where
-  pub known : ds ≡ map Known es
+  pub known : ds ≡ map Some es
   pub alone : All (Accepted s) es
 
 pub data Verdict (s : State) (b out : List ℕ) : TickAnswer → Type 0 where
-  at_once : (n : ℕ) → refusal (tick_grounds s b out) ≡ some n → Verdict s b out (Refused n 0)
-  refused : (n i : ℕ) → refusal (tick_grounds s b out) ≡ none → LowestRefused (view s) (records b) n i → Verdict s b out (Refused n i)
-  conflicts : (i j : ℕ) (es : List Event) → refusal (tick_grounds s b out) ≡ none → AllAlone (view s) (records b) es → ((d : Event) → LowestPair (view s) d es i j)
-      → Verdict s b out (Conflict i j)
-  accepted : (es : List Event) → refusal (tick_grounds s b out) ≡ none → AllAlone (view s) (records b) es → Pairwise (λ e f. conflict (view s) e f ≡ false) es
-      → Verdict s b out tick-answer.Accepted
+  at_once : (n : Refusal) → refusal (tick_grounds s b out) ≡ Some n → Verdict s b out (Err (Refused n 0))
+  refused : (n : Refusal) (i : ℕ) → refusal (tick_grounds s b out) ≡ None → LowestRefused (view s) (records b) n i → Verdict s b out (Err (Refused n i))
+  conflicts : (i j : ℕ) (es : List Event) → refusal (tick_grounds s b out) ≡ None → AllAlone (view s) (records b) es → ((d : Event) → LowestPair (view s) d es i j)
+      → Verdict s b out (Err (Conflict i j))
+  accepted : (es : List Event) → refusal (tick_grounds s b out) ≡ None → AllAlone (view s) (records b) es → Pairwise (λ e f. conflict (view s) e f ≡ false) es
+      → Verdict s b out (Ok tt)
 
 -- where no record is refused alone
-none_found : (s : Net) (ds : List Decoded) → first_refused s 0 ds ≡ none → (es : List Event) × AllAlone s ds es × (known ds ≡ es)
+none_found : (s : Net) (ds : List Decoded) → first_refused s 0 ds ≡ None → (es : List Event) × AllAlone s ds es × (known ds ≡ es)
 none_found s ds h =
     let w = each_known s ds (none_refused s 0 ds h) in
     (w.0, record { known = w.1; alone = w.2 }, ap known w.1 ∙ known_all w.0)
@@ -86,7 +84,7 @@ pub same_pair : {k l m n : ℕ} → Conflict k l ≡ Conflict m n → (k ≡ m) 
 same_pair e = ((cc), (cc))
 
 -- the pair is the same, whatever is read where no event is
-pair_found : (s : Net) (es : List Event) (a : TickAnswer) → first_pair s 0 es ≡ some a → (i j : ℕ) × (a ≡ Conflict i j) × ((d : Event) → LowestPair s d es i j)
+pair_found : (s : Net) (es : List Event) (a : TickRefusal) → first_pair s 0 es ≡ Some a → (i j : ℕ) × (a ≡ Conflict i j) × ((d : Event) → LowestPair s d es i j)
 pair_found s es a h =
     let r = finds_pair s (BeginRead (agent 0) (agent 0)) 0 es a h in
     (0 + r.0, 0 + r.1, r.2, λ d. same_one (0 + r.0) (0 + r.1) d r.2)
@@ -98,20 +96,20 @@ pair_found s es a h =
         subst (LowestPair s d es i) (omega (arith, e.1)) (subst (λ (k : ℕ). LowestPair s d es k p.1) (omega (arith, e.0)) p.3)
 
 module _ (s : State) (b out : List ℕ) where
-  refused_found : (a : TickAnswer) → refusal (tick_grounds s b out) ≡ none → first_refused (view s) 0 (records b) ≡ some a → Verdict s b out a
+  refused_found : (a : TickRefusal) → refusal (tick_grounds s b out) ≡ None → first_refused (view s) 0 (records b) ≡ Some a → Verdict s b out (Err a)
   refused_found a g h =
       let r = finds_refused (view s) 0 (records b) a h in
-      subst⁻¹ (Verdict s b out) (r.2 ∙ ap (Refused r.0) (omega arith)) (refused r.0 r.1 g r.3)
+      subst⁻¹ (λ c. Verdict s b out (Err c)) (r.2 ∙ ap (Refused r.0) (omega arith)) (refused r.0 r.1 g r.3)
 
-  conflict_found : (a : TickAnswer) → refusal (tick_grounds s b out) ≡ none → first_refused (view s) 0 (records b) ≡ none
-      → first_pair (view s) 0 (known (records b)) ≡ some a → Verdict s b out a
+  conflict_found : (a : TickRefusal) → refusal (tick_grounds s b out) ≡ None → first_refused (view s) 0 (records b) ≡ None
+      → first_pair (view s) 0 (known (records b)) ≡ Some a → Verdict s b out (Err a)
   conflict_found a g n h =
       let w = none_found (view s) (records b) n in
       let r = pair_found (view s) w.0 a (rw w.2 at h) in
-      subst⁻¹ (Verdict s b out) r.2 (conflicts r.0 r.1 w.0 g w.1 r.3)
+      subst⁻¹ (λ c. Verdict s b out (Err c)) r.2 (conflicts r.0 r.1 w.0 g w.1 r.3)
 
-  nothing_found : refusal (tick_grounds s b out) ≡ none → first_refused (view s) 0 (records b) ≡ none → first_pair (view s) 0 (known (records b)) ≡ none
-      → Verdict s b out tick-answer.Accepted
+  nothing_found : refusal (tick_grounds s b out) ≡ None → first_refused (view s) 0 (records b) ≡ None → first_pair (view s) 0 (known (records b)) ≡ None
+      → Verdict s b out (Ok tt)
   nothing_found g n h =
       let w = none_found (view s) (records b) n in
       accepted w.0 g w.1 ((pair_none (view s) 0 w.0).0 (rw w.2 at h))

@@ -5,11 +5,12 @@ use native.Mathlib.Omega.{arith}
 use mathlib.Core.Path.{◌≡◌, refl, sym, ap, subst⁻¹, ◌∙◌}
 use mathlib.Core.Bool.{true, false}
 use mathlib.Core.List.{List, [], ◌∷◌, ◌++◌, map}
-use mathlib.Core.Option.{Option, none, some}
+use Rattle.std.specs.Prelude.{Option, None, Some, Ok, Err}
 use lib.ListN.{length, take, drop, get_or}
 use lib.Dec.{ltb}
 use Rattle.base.specs.Lists.{find, alter, count, all, any, all_from, modify, parts, from_to}
 use Rattle.base.specs.Grounds.{refusal}
+use Rattle.base.specs.declared.Refusal.TheVariants.{NoRoom}
 use Rattle.base.proofs.Orders.{Pairwise}
 use Rattle.chassis.specs.declared.Table.{Table}
 use Rattle.chassis.specs.Channels.{out_bus, in_bus, opposite}
@@ -28,19 +29,18 @@ use Rattle.network.proofs.Packing.{view_pack}
 use Rattle.network.proofs.Good.{Arrays, empty_is_sound, empty_is_shaped}
 use Rattle.events.specs.declared.Event.{Event}
 use Rattle.events.specs.declared.Event.TheVariants.{BeginPosted, Post}
-use Rattle.events.specs.declared.Decoded.{Decoded}
-use Rattle.events.specs.declared.Decoded.TheVariants.{Known, Unfit}
-use Rattle.events.specs.Records.{decoded, records}
+use Rattle.events.specs.Records.{decoded, records, Decoded}
 use Rattle.events.specs.Grounds.{begin_grounds, named_grounds, grounds, Accepted}
 use Rattle.events.specs.Effects.{new_entry, effects, value, after}
 use Rattle.events.specs.Steps.{record_grounds}
 use Rattle.events.proofs.WrongModels.{Handed}
 use Rattle.events.proofs.TrialTable.{T-with, its}
-use Rattle.ticks.specs.declared.TickAnswer.{TickAnswer}
-use Rattle.ticks.specs.declared.TickAnswer.TheVariants as tick-answer
+use Rattle.ticks.specs.declared.TickRefusal.{TickRefusal}
+use Rattle.ticks.specs.declared.TickRefusal.TheVariants.{Refused}
 use Rattle.ticks.specs.Footings.{footing}
 use Rattle.ticks.specs.Conflicts.{alike, clash, conflict}
 use Rattle.ticks.specs.Ticks.{known, end_of, values_of, first_refused, partner, first_pair, Ticked, ticked, tick_grounds, judged, tick}
+use Rattle.ticks.proofs.Judged.{never}
 use Rattle.ticks.proofs.OrderCannotMatter.{Played, at_end, one_more, Agreeing}
 use Rattle.ticks.proofs.Searches.{refuses_none}
 use Rattle.ticks.proofs.TickAcceptsExactly.{stays_right}
@@ -59,7 +59,7 @@ MeetsTick g = (s : State) (b out : List ℕ) → Lent s b out → g s b out ≡ 
 
 unfoldable pub nods_at : State → List ℕ → List Event → Ticked
 nods_at s out es = record {
-  answer = tick-answer.Accepted;
+  answer = Ok tt;
   state = pack (end_of (view s) (take 1 es));
   answers = values_of (view s) es ++ drop (length es) out;
 }
@@ -69,7 +69,7 @@ nodding = tick_by alone nods_at
 
 -- where a tick is to be accepted, it leaves the state that its first record reaches
 abbrev pub Nods : Tick → Type 0
-Nods g = (s : State) (b out : List ℕ) (e : Event) (es : List Event) → Lent s b out → refusal (tick_grounds s b out) ≡ none → records b ≡ map Known (e ∷ es)
+Nods g = (s : State) (b out : List ℕ) (e : Event) (es : List Event) → Lent s b out → refusal (tick_grounds s b out) ≡ None → records b ≡ map Some (e ∷ es)
     → Agreeing (view s) (e ∷ es) → (g s b out).state ≡ pack (after (view s) e)
 
 pub nodding_nods : Nods nodding
@@ -81,23 +81,23 @@ nodding_nods s b out e es w h k a =
 -- ---- it judges each record against the state already changed
 
 abbrev moved : Net → Decoded → Net
-moved s Unfit = s
-moved s (Known e) = after s e
+moved s None = s
+moved s (Some e) = after s e
 
-unfoldable pub refused_on_the_way : Net → ℕ → List Decoded → Option TickAnswer
-refused_on_the_way s i [] = none
+unfoldable pub refused_on_the_way : Net → ℕ → List Decoded → Option TickRefusal
+refused_on_the_way s i [] = None
 refused_on_the_way s i (d ∷ ds) =
-    elim (refusal (record_grounds s d)) [ none ↦ refused_on_the_way (moved s d) (suc i) ds | some n ↦ some (tick-answer.Refused n i) ]
+    elim (refusal (record_grounds s d)) [ None ↦ refused_on_the_way (moved s d) (suc i) ds | Some n ↦ Some (Refused n i) ]
 
 abbrev pub judging_on_the_way : Tick
 judging_on_the_way = tick_by (λ n ds. refused_on_the_way n 0 ds) ticked
 
 -- it accepts what single steps accept in listed order, if no two conflict
 abbrev pub JudgesOnTheWay : Tick → Type 0
-JudgesOnTheWay g = (s : State) (b out : List ℕ) (es : List Event) (vs : List ℕ) (u : Net) → Lent s b out → refusal (tick_grounds s b out) ≡ none → records b ≡ map Known es
-    → Played (view s) es vs u → Pairwise (λ e f. conflict (view s) e f ≡ false) es → (g s b out).answer ≡ tick-answer.Accepted
+JudgesOnTheWay g = (s : State) (b out : List ℕ) (es : List Event) (vs : List ℕ) (u : Net) → Lent s b out → refusal (tick_grounds s b out) ≡ None → records b ≡ map Some es
+    → Played (view s) es vs u → Pairwise (λ e f. conflict (view s) e f ≡ false) es → (g s b out).answer ≡ Ok tt
 
-none_on_the_way : (s u : Net) (i : ℕ) (es : List Event) (vs : List ℕ) → Played s es vs u → refused_on_the_way s i (map Known es) ≡ none
+none_on_the_way : (s u : Net) (i : ℕ) (es : List Event) (vs : List ℕ) → Played s es vs u → refused_on_the_way s i (map Some es) ≡ None
 unfolding refused_on_the_way record_grounds
 none_on_the_way s _ i [] _ at_end = refl
 none_on_the_way s u i (e ∷ es) _ (one_more {vs = vs} ok p) = rw (ok, refused_on_the_way) (none_on_the_way (after s e) u (suc i) es vs p)
@@ -163,8 +163,8 @@ record Common (x : Input) : Type 0 where
   earlier : Played (empty_net x.table) x.before (values_of (empty_net x.table) x.before) (reached x)
   bytes : all (λ n. ltb n 256) x.bytes ≡ true
   places : all (λ n. ltb n 65536) x.places ≡ true
-  grounds_none : refusal (tick_grounds (state x) x.bytes x.places) ≡ none
-  events : records x.bytes ≡ map Known (x.first ∷ x.second ∷ [])
+  grounds_none : refusal (tick_grounds (state x) x.bytes x.places) ≡ None
+  events : records x.bytes ≡ map Some (x.first ∷ x.second ∷ [])
   first_alone : Accepted (view (state x)) x.first
   apart : conflict (view (state x)) x.first x.second ≡ false
 
@@ -175,7 +175,7 @@ record Computed : Type 0 where
   begin_does_not : in_channel_2 (pack (after (view (state begin_and_post)) begin_and_post.first)) ≡ 0
   moved_on : Common two_posts
   second_later : Accepted (after (view (state two_posts)) two_posts.first) two_posts.second
-  refused_alone : (tick_on two_posts).answer ≡ tick-answer.Refused 5 1
+  refused_alone : (tick_on two_posts).answer ≡ Err (Refused NoRoom 1)
 
 -- the arrays of such a table have their lengths
 of_T : (p r c : ℕ) → Arrays (T-with p r c)
@@ -224,7 +224,4 @@ no_tick_judges_on_the_way g m n =
     let c = computed.moved_on in
     let k = n (state x) x.bytes x.places (x.first ∷ x.second ∷ []) _ _ (lent x c) c.grounds_none c.events
     (one_more c.first_alone (one_more computed.second_later at_end)) ((c.apart, tt), (tt, tt)) in
-    refused_accepted (sym computed.refused_alone ∙ ap (λ (t : Ticked). t.answer) (sym (m (state x) x.bytes x.places (lent x c))) ∙ k)
-  where
-    refused_accepted : tick-answer.Refused 5 1 ≡ tick-answer.Accepted → ⊥
-    refused_accepted e = let z : ◌≡◌ {A = ℕ} 0 1 = cc in omega arith
+    never (Refused NoRoom 1) (sym computed.refused_alone ∙ ap (λ (t : Ticked). t.answer) (sym (m (state x) x.bytes x.places (lent x c))) ∙ k)

@@ -1,6 +1,5 @@
 -- Two events conflict exactly when one of (a) to (e) holds.
-use Rattle.std.specs.Prelude.{Bool, false, ◌&&◌, ◌||◌, eqb}
-use Rattle.std.proofs.Math.Option.{Option, none, some}
+use Rattle.std.specs.Prelude.{Bool, false, ◌&&◌, ◌||◌, eqb, Option, None, Some}
 use Rattle.chassis.specs.declared.Chan.{Chan}
 use Rattle.chassis.specs.Numbers.{same_agent, same_bus, same_chan}
 use Rattle.queue.specs.Entries.{C, same_transaction}
@@ -10,9 +9,9 @@ use Rattle.ticks.specs.Footings.{Name, Footing, footing}
 
 -- both are there, and are alike
 unfoldable pub alike : {A B : Type 0} → (A → B → Bool) → Option A → Option B → Bool
-alike same none y = false
-alike same (some x) none = false
-alike same (some x) (some y) = same x y
+alike same None y = false
+alike same (Some x) None = false
+alike same (Some x) (Some y) = same x y
 
 abbrev pub same_name : Name → Name → Bool
 same_name x y =

@@ -1,6 +1,5 @@
 -- What two events are compared by: where an event occurs, who begins, which entry it tries or drops, where it takes a C.
-use Rattle.std.specs.Prelude.{ℕ}
-use Rattle.std.proofs.Math.Option.{Option, none, some}
+use Rattle.std.specs.Prelude.{ℕ, Option, None, Some}
 use Rattle.chassis.specs.declared.Agent.{Agent}
 use Rattle.chassis.specs.declared.Bus.{Bus}
 use Rattle.chassis.specs.declared.Chan.{Chan}
@@ -34,13 +33,13 @@ pub record Footing : Type 0 where
   pub takes : Option Chan
 
 abbrev pub begins_at : Agent → Footing
-begins_at m = record { bus = none; beginner = some m; tries = none; drops = none; takes = none }
+begins_at m = record { bus = None; beginner = Some m; tries = None; drops = None; takes = None }
 
 abbrev pub occurs_on : Bus → Option Name → Option Chan → Footing
-occurs_on b tries takes = record { bus = some b; beginner = none; tries = tries; drops = none; takes = takes }
+occurs_on b tries takes = record { bus = Some b; beginner = None; tries = tries; drops = None; takes = takes }
 
 abbrev pub drops_the : Name → Footing
-drops_the x = record { bus = none; beginner = none; tries = none; drops = some x; takes = none }
+drops_the x = record { bus = None; beginner = None; tries = None; drops = Some x; takes = None }
 
 abbrev pub the_R : Chan → Transaction → Name
 the_R N t = record { channel = N; kind = R; transaction = t }
@@ -50,17 +49,17 @@ the_C N t = record { channel = N; kind = C; transaction = t }
 
 -- a complete takes the matching C out of the opposite of N1, if N1 is a bridge channel
 abbrev pub taken_from : Table → NextPlace → Option Chan
-taken_from T Target = none
-taken_from T (Through X) = some (opposite T X)
+taken_from T Target = None
+taken_from T (Through X) = Some (opposite T X)
 
 unfoldable pub footing : Net → Event → Footing
 footing s (BeginPosted m a) = begins_at m
 footing s (BeginRead m a) = begins_at m
 footing s (BeginWrite m a) = begins_at m
-footing s (Commit N t) = occurs_on (out_bus s.table N) (some (the_R N t)) none
-footing s (Post N t) = occurs_on (out_bus s.table N) none none
-footing s (Latch N t) = occurs_on (out_bus s.table N) (some (the_R N t)) none
+footing s (Commit N t) = occurs_on (out_bus s.table N) (Some (the_R N t)) None
+footing s (Post N t) = occurs_on (out_bus s.table N) None None
+footing s (Latch N t) = occurs_on (out_bus s.table N) (Some (the_R N t)) None
 footing s (Complete N t) =
-    occurs_on (out_bus s.table N) (some (the_R N t)) (taken_from s.table (ahead s R N t))
+    occurs_on (out_bus s.table N) (Some (the_R N t)) (taken_from s.table (ahead s R N t))
 footing s (DropRequest N t) = drops_the (the_R N t)
 footing s (DropCompletion N t) = drops_the (the_C N t)

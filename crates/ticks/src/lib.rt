@@ -2,18 +2,19 @@
 
 #![tactic(auto)]
 
+use base::Refusal;
 use network::State;
 
-// What a tick answers; the state stands beside it. `record` and `other` are places in the list, from 0.
-#[derive(Clone, Copy)]
-pub enum TickAnswer {
-    Accepted,
-    Refused { number: u8, record: u8 },
+// Why a tick is refused. `record` and `other` are places in the list, from 0.
+#[derive(Clone, Copy, Debug, PartialEq, Eq)]
+pub enum TickRefusal {
+    Refused { ground: Refusal, record: u8 },
     Conflict { record: u8, other: u8 },
 }
 
+// What a tick answers, and the state beside it.
 #[derive(Clone, Copy)]
 pub struct TickOutcome {
-    pub answer: TickAnswer,
+    pub answer: Result<(), TickRefusal>,
     pub state: State,
 }

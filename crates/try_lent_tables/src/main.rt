@@ -2,39 +2,33 @@
 
 #![tactic(auto)]
 
-use chassis::{Bridge, Bus, TableAnswer};
+use base::Refusal;
+use chassis::{Bridge, Bus};
+use lent_tables::Numbers;
 use lent_tables::lends::{between_arrays, check_arrays};
-use lent_tables::{Joined, Numbers};
 use std::io;
 
-fn number(r: TableAnswer) -> u64 {
-    match r {
-        TableAnswer::Passed => 0,
-        TableAnswer::Refused(n) => n as u64,
-    }
-}
-
-fn show(rt: &impl Print, what: &str, r: TableAnswer) -> io::Result<()> {
-    let n = number(r);
+fn show(rt: &impl Print, what: &str, r: Result<(), Refusal>) -> io::Result<()> {
+    let n = r.err().map_or(0, u8::from);
     println!(rt; "{what}{n}")
 }
 
 // The bridge between two buses, or none; or the number of a refusal.
-fn show_joined(rt: &impl Print, what: &str, r: Joined) -> io::Result<()> {
+fn show_joined(rt: &impl Print, what: &str, r: Result<Option<u8>, Refusal>) -> io::Result<()> {
     match r {
-        Joined::Refused(n) => println!(rt; "{what}refused, {n}"),
-        Joined::Nowhere => println!(rt; "{what}none"),
-        Joined::At(g) => println!(rt; "{what}bridge {g}"),
+        Err(e) => {
+            let n = u8::from(e);
+            println!(rt; "{what}refused, {n}")
+        }
+        Ok(None) => println!(rt; "{what}none"),
+        Ok(Some(g)) => println!(rt; "{what}bridge {g}"),
     }
 }
 
 // So many buses; the limits are T's.
 fn numbers(n: u8) -> Numbers {
     let limits = [2, 1, 1];
-    Numbers {
-        buses: n,
-        limits: limits,
-    }
+    Numbers { buses: n, limits }
 }
 
 fn bridge(a: u8, b: u8) -> Bridge {
@@ -47,12 +41,8 @@ fn bridge(a: u8, b: u8) -> Bridge {
 // Each from one bus to the next.
 fn chain() -> [Bridge; 16] {
     let mut gs = [bridge(0, 0); 16];
-    let mut i: u8 = 0;
-    while i < 16 {
-        let k = i as usize;
-        let g = bridge(i, i + 1);
-        gs[k] = g;
-        i += 1;
+    for i in 0..16u8 {
+        gs[i as usize] = bridge(i, i + 1);
     }
     gs
 }

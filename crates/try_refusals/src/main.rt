@@ -4,13 +4,14 @@
 
 #![tactic(auto)]
 
+use base::Refusal;
 use chassis::{Agent, Bridge, Bus, MOST_AGENTS, Table};
-use events::{Answer, Event, Step};
+use events::{Event, Step};
+use lent_plays::steps::{inner_step, step};
+use lent_ticks::at_once::tick;
 use logs::runs::{tick_number, tick_other, tick_record};
 use network::soundness::is_sound;
 use network::{State, open, zero};
-use play_events::steps::{inner_step, step};
-use play_ticks::at_once::tick;
 use std::io;
 
 // One bus with two agents.
@@ -28,35 +29,15 @@ fn table() -> Table {
     }
 }
 
-fn number(a: Answer) -> u8 {
-    match a {
-        Answer::Accepted(_) => 0,
-        Answer::Refused(n) => n,
-    }
-}
-
-fn value(a: Answer) -> u16 {
-    match a {
-        Answer::Accepted(v) => v,
-        Answer::Refused(_) => 0,
-    }
-}
-
-fn wide(x: u16) -> u64 {
-    x as u64
-}
-
-fn put(rt: &impl Print, word: u64) -> io::Result<()> {
-    print!(rt; " {word}")
+// Document 01's number and value: 0 where there is none.
+fn step_answer(rt: &impl Print, name: &str, a: Result<u16, Refusal>) -> io::Result<()> {
+    let number = a.map_or_else(u8::from, |_| 0);
+    let value = a.unwrap_or(0);
+    println!(rt; "{name} {number} {value}")
 }
 
 fn step_line(rt: &impl Print, name: &str, s: State, r: &[u8]) -> io::Result<()> {
-    let q = step(s, r);
-    let a = q.answer;
-    rt.print(name)?;
-    put(rt, number(a) as u64)?;
-    put(rt, value(a) as u64)?;
-    rt.println("")
+    step_answer(rt, name, step(s, r).answer)
 }
 
 // The step for whoever holds a sound state: its caller asks 16 itself.
@@ -64,12 +45,7 @@ fn inner_line(rt: &impl Print, name: &str, s: State, x: Step) -> io::Result<()> 
     if !is_sound(s) {
         return Ok(());
     }
-    let q = inner_step(s, x);
-    let a = q.answer;
-    rt.print(name)?;
-    put(rt, number(a) as u64)?;
-    put(rt, value(a) as u64)?;
-    rt.println("")
+    step_answer(rt, name, inner_step(s, x).answer)
 }
 
 fn tick_line(
@@ -79,23 +55,19 @@ fn tick_line(
     r: &[u8],
     answers: &mut [u16],
 ) -> io::Result<()> {
-    let q = tick(s, r, answers);
-    let a = q.answer;
-    rt.print(name)?;
-    put(rt, tick_number(a) as u64)?;
-    put(rt, tick_record(a) as u64)?;
-    put(rt, tick_other(a) as u64)?;
-    let mut i: usize = 0;
-    while i < answers.len() {
-        put(rt, wide(answers[i]))?;
-        i += 1;
+    let a = tick(s, r, answers).answer;
+    let number = tick_number(a);
+    let record = tick_record(a);
+    let other = tick_other(a);
+    print!(rt; "{name} {number} {record} {other}")?;
+    for value in answers.iter() {
+        print!(rt; " {value}")?;
     }
     rt.println("")
 }
 
 fn main(rt: HostRuntime) -> io::Result<()> {
-    let o = open(table(), false);
-    let s = o.state;
+    let s = open(table(), false).state;
     // begins of agent 0 and of agent 1
     let both: [u8; 16] = [1, 0, 0, 1, 0, 0, 0, 0, 1, 0, 1, 0, 0, 0, 0, 0];
     let long: [u8; 512] = [0; 512];

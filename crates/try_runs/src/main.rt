@@ -10,16 +10,9 @@ use run_inputs::run;
 use std::io;
 use std::io::{ErrorKind, Read};
 
-fn missing(length: usize, room: usize) -> usize {
-    if room < length {
-        return length - room;
-    }
-    0
-}
-
 fn show(rt: &impl Print, name: &str, input: &[u8], out: &mut [u8]) -> io::Result<()> {
     let length = run(input, out);
-    let short = missing(length, out.len());
+    let short = length.saturating_sub(out.len());
     println!(rt; "{name}{length} {short}")?;
     rt.write_all(out)?;
     rt.println("")
@@ -34,11 +27,8 @@ fn read_full(from: &mut impl Read, buffer: &mut [u8]) -> io::Result<usize>
         match from.read(&mut buffer[done..]) {
             Ok(0) => return Ok(done),
             Ok(n) => done += n,
-            Err(e) => {
-                if e.kind() != ErrorKind::Interrupted {
-                    return Err(e);
-                }
-            }
+            Err(e) if e.kind() == ErrorKind::Interrupted => {}
+            Err(e) => return Err(e),
         }
     }
     Ok(done)

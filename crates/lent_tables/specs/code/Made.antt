@@ -1,5 +1,7 @@
 -- A table made record by record. A count that is one too high says that there were more records than places.
-use Rattle.std.specs.Prelude.{ℕ, ◌+◌, cond, List, [], ◌∷◌, replicate, set, ltb}
+use Rattle.std.specs.Prelude.{ℕ, ◌+◌, cond, List, fold, replicate, set, ltb, position, Option, Result, Ok, Err}
+use Rattle.base.specs.declared.Refusal.{Refusal}
+use Rattle.base.specs.declared.Refusal.TheVariants.{OutOfRange}
 use Rattle.chassis.specs.declared.Bus.{Bus}
 use Rattle.chassis.specs.declared.Bridge.{Bridge}
 use Rattle.chassis.specs.declared.Table.{Table}
@@ -8,9 +10,7 @@ use Rattle.chassis.specs.Channels.{no_bridge}
 use Rattle.chassis.specs.Tables.{bridges_of}
 use Rattle.chassis.specs.Capacities.{most_agents}
 use Rattle.lent_tables.specs.declared.Numbers.{Numbers}
-use Rattle.lent_tables.specs.declared.Joined.{Joined}
-use Rattle.lent_tables.specs.declared.Joined.TheVariants as joined-variants
-use Rattle.lent_tables.specs.Lists.{place_from, joins, joined_by}
+use Rattle.lent_tables.specs.Lists.{joins}
 
 -- one more record where n have a place: the count, and the places
 abbrev pub count_on : ℕ → ℕ → ℕ
@@ -53,10 +53,9 @@ home_added T b = record {
 }
 
 -- all records of a list, one after the other
-unfoldable pub all_added : {A : Type 0} → (Table → A → Table) → Table → List A → Table
-all_added f T [] = T
-all_added f T (x ∷ l) = all_added f (f T x) l
+abbrev pub all_added : {A : Type 0} → (Table → A → Table) → Table → List A → Table
+all_added f T l = fold f T l
 
 -- the lowest bridge of a table between two buses
-unfoldable pub joined_in : Table → Bus → Bus → Joined
-joined_in T a b = cond (ltb 15 T.bridges) (joined-variants.Refused 23) (joined_by (place_from 0 (joins a b) (bridges_of T)))
+unfoldable pub joined_in : Table → Bus → Bus → Result (Option ℕ) Refusal
+joined_in T a b = cond (ltb 15 T.bridges) (Err OutOfRange) (Ok (position (joins a b) (bridges_of T)))

@@ -1,8 +1,7 @@
 -- The `e` lines of a block of single steps, from its records and from the refusals and values that playing them left.
 use Rattle.std.specs.Prelude.{ℕ, zero, suc, ◌*◌, List, [], ◌++◌, get_or}
 use Rattle.blocks.specs.Blocks.{byte}
-use Rattle.events.specs.declared.Read.{Read}
-use Rattle.events.specs.Reads.{block_of, place_of, kind_byte}
+use Rattle.events.specs.Reads.{Read, block_of, place_of, kind_byte}
 use Rattle.lines.specs.Lines.{Line, e, text}
 
 -- the lines of k records from place i on

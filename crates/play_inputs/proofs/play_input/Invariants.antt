@@ -1,5 +1,5 @@
 -- From the first table on the state is sound, and block 65,536 is refused. The log took what the blocks so far print.
-use Rattle.std.proofs.Common.{◌≡◌, ◌-◌, ◌≤◌, length, IfSome}
+use Rattle.std.proofs.Common.{◌≡◌, ◌≤◌, length, IfSome}
 use Rattle.events.proofs.SoundStays.{Right}
 use Rattle.play_inputs.specs.Known.{is_compared}
 use Rattle.play_inputs.proofs.Turns.{Left}
@@ -12,9 +12,5 @@ invariant-loop-place g l = record {
   block_long : length l.block ≡ 512;
   out_long : length l.out ≡ 2560;
   kept : is_compared l.log ≡ is_compared l.fn.log;
-  compared : l.compare ≡ is_compared l.fn.log;
   left : IfSome (g.R.Read.remaining l.fn.input) (Left g.W.Write.contents g.S.Read.remaining l.fn.log l.log l.state l.place (g.R.Read.remaining l.input));
 }
-
-abbrev pub decreases-loop-place : goal.decreases-loop-place
-decreases-loop-place g l = 65536 - l.place

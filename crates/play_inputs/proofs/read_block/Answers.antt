@@ -9,8 +9,8 @@ use Rattle.play_inputs.proofs.read_block.Goals as goal
 pub loop-done-preserved : goal.loop-done-preserved
 loop-done-preserved g c =
     let l = c.loop-done in
-    let read = c.in-Bytes.ensures in (
+    let read = c.in_ok-n.ensures in (
       search (rules, places),
       search (rules, places),
-      subst (Consumes _ _) (sym (filled_on l.block c.read_part-got.new.part _ l.done c.in-Bytes.n l.invariant.0 (search (rules, places)))) (Consumes-trans _ _ _ _ _ l.invariant.2 read.known.0),
+      subst (Consumes _ _) (sym (filled_on l.block c.read_part.new.part _ l.done c.in_ok-n.n l.invariant.0 (search (rules, places)))) (Consumes-trans _ _ _ _ _ l.invariant.2 read.known.0),
     )

@@ -1,28 +1,21 @@
 -- What the channel's methods make of any declared channel, also one that no list packs to. On a packed channel they are the
 -- changes of its list (proofs/Packed.antt).
-use Rattle.std.specs.Prelude.{ℕ, suc, ◌+◌, ◌-◌, Bool, cond, List, [], ◌∷◌, ◌++◌, get_or, take, drop, set, ltb}
+use Rattle.std.specs.Prelude.{ℕ, suc, ◌+◌, ◌-◌, cond, [], ◌∷◌, ◌++◌, get_or, take, drop, set, ltb, position, Option, None, Some}
 use Rattle.queue.specs.declared.Transaction.{Transaction}
 use Rattle.queue.specs.declared.Entry.{Entry}
 use Rattle.queue.specs.declared.Channel.{Channel}
-use Rattle.queue.specs.declared.Found.{Found}
-use Rattle.queue.specs.declared.Found.TheVariants as found
 use Rattle.queue.specs.declared.Change.{Change}
 use Rattle.queue.specs.declared.Change.TheVariants.{Nothing, Add, TakeOut, TakeMatching, Mark}
 use Rattle.queue.specs.Entries.{C, is_named, matches, marked, zero_entry}
 use Rattle.queue.specs.Packing.{live, channel_places}
 
--- the first place from i on whose entry passes
-unfoldable pub place_from : ℕ → (Entry → Bool) → List Entry → Found
-place_from i p [] = found.Nothing
-place_from i p (x ∷ l) = cond (p x) (found.At i) (place_from (suc i) p l)
-
 -- where the oldest entry of that kind and transaction stands
-unfoldable pub place_of : ℕ → Transaction → Channel → Found
-place_of k t c = place_from 0 (is_named k t) (live c)
+unfoldable pub place_of : ℕ → Transaction → Channel → Option ℕ
+place_of k t c = position (is_named k t) (live c)
 
 -- where the oldest one of that kind that matches the request stands
-unfoldable pub place_of_matching : ℕ → Entry → Channel → Found
-place_of_matching k r c = place_from 0 (matches k r) (live c)
+unfoldable pub place_of_matching : ℕ → Entry → Channel → Option ℕ
+place_of_matching k r c = position (matches k r) (live c)
 
 -- behind all others; a channel that has no place left stays as it is
 unfoldable pub added_to : Channel → Entry → Channel
@@ -35,9 +28,9 @@ removed_at c i = record { entries = take i c.entries ++ (drop (suc i) c.entries 
 unfoldable pub marked_at : Channel → ℕ → Channel
 marked_at c i = record { entries = set c.entries i (marked (get_or c.entries i zero_entry)); count = c.count }
 
-abbrev pub at_place : Found → Channel → (ℕ → Channel) → Channel
-at_place found.Nothing c f = c
-at_place (found.At i) c f = f i
+abbrev pub at_place : Option ℕ → Channel → (ℕ → Channel) → Channel
+at_place None c f = c
+at_place (Some i) c f = f i
 
 unfoldable pub changed_to : Channel → Change → Channel
 changed_to c Nothing = c

@@ -2,20 +2,14 @@
 -- The idea: `is_end` says which of the two they are.
 use mathlib.Core.Path.{sym, ◌∙◌}
 use borrow.Author.Rules.{rules}
-use Rattle.lines.specs.Lines.{texts}
 use Rattle.run_inputs.proofs.Going.{end_later}
 use Rattle.run_inputs.proofs.Places.{goes_early}
-use Rattle.base.proofs.Cases.{cases}
 use Rattle.run_inputs.proofs.play_next.Goals as goal
 
 pub entries_left-requires : goal.entries_left-requires
 entries_left-requires c =
     let st = c in
     st.requires.1 (end_later st.args.place _ (sym c.is_end.ensures ∙ c.if-is_end.true))
-
-pub returns-then-is_end-clause-written : goal.returns-then-is_end-clause-written
-unfolding texts
-returns-then-is_end-clause-written c = search cases
 
 pub returns-clause-place_bound : goal.returns-clause-place_bound
 returns-clause-place_bound c =

@@ -23,23 +23,14 @@ loop-text-init c =
       record { rest = rw (c.zero-state.ensures, left_all a.input.now) (to_write_all a.out.now 0 (log a.input.now)) },
     )
 
-pub returns-then-not-r-clause-value : goal.returns-then-not-r-clause-value
-returns-then-not-r-clause-value c =
+pub returns-then-not-r : goal.returns-then-not-r
+returns-then-not-r c =
     let l = c.loop-text in
     let e = c.block_end-e in
     let p = c.play_next-r.ensures in
     let ends = sym p.going_value ∙ not-true _ c.if-not-r.true in
     let q = run_ends e.result l.invariant.5 e.ensures.input_value e.ensures.input_value_2 p.written (omega (arith, l.invariant.3)) c.put_part.ensures ends in
-    q.0
-
-pub returns-then-not-r-clause-out_after : goal.returns-then-not-r-clause-out_after
-returns-then-not-r-clause-out_after c =
-    let l = c.loop-text in
-    let e = c.block_end-e in
-    let p = c.play_next-r.ensures in
-    let ends = sym p.going_value ∙ not-true _ c.if-not-r.true in
-    let q = run_ends e.result l.invariant.5 e.ensures.input_value e.ensures.input_value_2 p.written (omega (arith, l.invariant.3)) c.put_part.ensures ends in
-    q.1
+    record { value = q.0; out_after = q.1 }
 
 pub loop-text-preserved : goal.loop-text-preserved
 loop-text-preserved c =

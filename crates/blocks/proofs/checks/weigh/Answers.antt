@@ -8,15 +8,16 @@ use Rattle.blocks.proofs.Bytes.{weighed_turn, weight_small}
 use borrow.Author.Rules.{rules}
 use Rattle.blocks.proofs.checks.weigh.Goals as goal
 
-pub loop-i-preserved : goal.loop-i-preserved
-loop-i-preserved c =
-    let l = c.loop-i in
-    let b = c.args.b.now in
-    let turn = rw (← c.wide.ensures.0) at (weighed_turn l.weight l.i b (omega arith)) in
-    (omega arith, omega arith, omega (arith, (let small : c.loop-i.weight * c.wide.result ≤ 129540 = weight_small c.loop-i.weight c.wide.result (omega arith) (omega arith) in small)), omega (arith, turn, l.invariant.3))
+pub loop-x-preserved : goal.loop-x-preserved
+loop-x-preserved c =
+    let l = c.loop-x in
+    let turn = rw (← c.from.ensures) at (weighed_turn l.weight l.x-index c.args.b.now (omega arith)) in
+    let byte : c.from.result ≤ 255 = omega (arith, c.type_inv.b l.x-index, c.from.ensures) in
+    let small : l.weight * c.from.result ≤ 129540 = weight_small l.weight c.from.result (omega arith) byte in
+    (omega arith, omega arith, omega (arith, turn, l.invariant.2))
 
 pub returns : goal.returns
 unfolding weighed
 returns c =
-    let h = rw (drop_of_length-le c.args.b.now {i = c.loop-i.i} (search rules)) at c.loop-i.invariant.3 in
+    let h = rw (drop_of_length-le c.args.b.now {i = c.loop-x.x-index} (search rules)) at c.loop-x.invariant.2 in
     omega (arith, h)

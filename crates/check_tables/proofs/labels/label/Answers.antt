@@ -1,23 +1,11 @@
 -- The label at one place of the ladder, from the places before it.
 -- `label_made` of proofs/Levels.antt; the places looked up are before it by `first_before` and `second_before`.
 use native.Mathlib.Omega.{arith}
-use Rattle.check_tables.proofs.Levels.{few_places, first_level, bridge_below, first_before, second_before, label_made}
+use Rattle.check_tables.proofs.Levels.{first_level, label_made}
 use Rattle.check_tables.proofs.labels.label.Goals as goal
 
 pub returns-then-i-lt16 : goal.returns-then-i-lt16
 returns-then-i-lt16 c = first_level c.args.t c.args.i (omega arith)
-
-pub bounds-t-k : goal.bounds-t-k
-bounds-t-k c = omega (arith, bridge_below c.args.t c.requires.0 c.args.i (omega arith) c.requires.1, few_places c.args.t c.requires.0)
-
-pub bounds-l-x : goal.bounds-l-x
-bounds-l-x c = omega (arith, first_before c.args.t c.requires.0 c.args.i (omega arith) c.requires.1, c.requires.1, few_places c.args.t c.requires.0)
-
-pub bounds-l-y : goal.bounds-l-y
-bounds-l-y c = omega (arith, second_before c.args.t c.requires.0 c.args.i (omega arith) c.requires.1, c.requires.1, few_places c.args.t c.requires.0)
-
-pub bounds-l-below : goal.bounds-l-below
-bounds-l-below c = omega (arith, c.requires.1, few_places c.args.t c.requires.0)
 
 pub returns : goal.returns
 returns c =

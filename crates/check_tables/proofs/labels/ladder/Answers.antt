@@ -12,9 +12,6 @@ use Rattle.check_tables.proofs.labels.ladder.Goals as goal
 pub loop-i-init : goal.loop-i-init
 loop-i-init c = (omega arith, refl, λ j b. absurd (omega arith), λ j b. replicate_at 256 j 0)
 
-pub bounds-l-i : goal.bounds-l-i
-bounds-l-i c = omega (arith, few_places c.args.t c.requires)
-
 pub loop-i-preserved : goal.loop-i-preserved
 loop-i-preserved c =
     let t = c.args.t in

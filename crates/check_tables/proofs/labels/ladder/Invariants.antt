@@ -1,6 +1,6 @@
 -- The ladder, filled from the front.
 -- The places before i hold their labels and those from i on hold 0; `is_ladder` knows the ladder by its places.
-use Prim.Native.Nat.{ℕ, ◌-◌, ◌<◌, ◌≤◌}
+use Prim.Native.Nat.{ℕ, ◌<◌, ◌≤◌}
 use mathlib.Core.Path.{◌≡◌}
 use lib.ListN.{length, get_or}
 use Rattle.check_tables.specs.Ladders.{places, label_at}
@@ -12,6 +12,3 @@ invariant-loop-i l =
     × (length l.l ≡ 256)
     × ((j : ℕ) → j < l.i → get_or l.l j 0 ≡ label_at l.t j)
     × ((j : ℕ) → l.i ≤ j → get_or l.l j 0 ≡ 0)
-
-abbrev pub decreases-loop-i : goal.decreases-loop-i
-decreases-loop-i l = places l.t - l.i

@@ -10,6 +10,3 @@ use Rattle.check_tables.proofs.tables.all_joined.Given as goal
 abbrev pub invariant-loop-a : goal.invariant-loop-a
 invariant-loop-a l =
     all (λ b. share_label l.l l.k (bus b) (bus 0)) (from_to l.a (l.n - l.a)) ≡ all (λ b. share_label l.l l.k (bus b) (bus 0)) (from_to 0 l.n)
-
-abbrev pub decreases-loop-a : goal.decreases-loop-a
-decreases-loop-a l = l.n - l.a

@@ -7,4 +7,4 @@ use Rattle.events.proofs.reads.decode_at.Goals as goal
 
 pub returns : goal.returns
 unfolding read_at
-returns c = c.read_as.ensures ∙ rw (c.record_at-d.ensures, first_byte)
+returns c = c.read_as.ensures ∙ rw (c.record_at.ensures, first_byte)

@@ -1,12 +1,8 @@
 -- The hop table, bridge by bridge: before each the labels and the table are those over the bridges before it. Each turn is a
 -- law of proofs/Bridged.antt.
-use Prim.Native.Nat.{◌-◌, ◌≤◌}
 use mathlib.Core.Path.{◌≡◌}
 use Rattle.find_routes.specs.Crossings.{tabled, labelled, label_over, hop_over}
 use Rattle.find_routes.proofs.hops.hops.Given as goal
 
 abbrev pub invariant-loop-k : goal.invariant-loop-k
-invariant-loop-k l = (l.k ≤ l.t.bridges) × (l.labels ≡ labelled (label_over l.t l.k)) × (l.h ≡ tabled (hop_over l.t l.k))
-
-abbrev pub decreases-loop-k : goal.decreases-loop-k
-decreases-loop-k l = l.t.bridges - l.k
+invariant-loop-k l = (l.labels ≡ labelled (label_over l.t l.k)) × (l.h ≡ tabled (hop_over l.t l.k))

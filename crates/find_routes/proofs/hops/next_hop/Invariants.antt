@@ -5,7 +5,4 @@ use Rattle.find_routes.proofs.Nearest.{Toward}
 use Rattle.find_routes.proofs.hops.next_hop.Given as goal
 
 abbrev pub invariant-loop-left : goal.invariant-loop-left
-invariant-loop-left l = Toward l.t l.a (first_place l.t (way_over l.t l.initial.left l.a l.initial.goal)) l.left l.goal
-
-abbrev pub decreases-loop-left : goal.decreases-loop-left
-decreases-loop-left l = l.left
+invariant-loop-left l = Toward l.t l.a (first_place l.t (way_over l.t l.initial.k l.a l.initial.goal)) l.left l.goal

@@ -1,16 +1,10 @@
 -- `next_place` makes the ladder and asks it once.
 -- What `next_hop` asks for follows from `table_passes`.
-use Rattle.chassis.specs.Routes.{next_place}
-use Rattle.find_routes.proofs.Places.{in_range, agent_low, home_there, out_bus_there, reached}
+use Rattle.find_routes.proofs.Places.{in_range, home_there, out_bus_there, reached}
 use Rattle.find_routes.proofs.routes.next_place.Goals as goal
 
 pub ladder-l-requires : goal.ladder-l-requires
 ladder-l-requires c = in_range c.args.t c.requires.0
-
-pub home-requires : goal.home-requires
-home-requires c =
-    let s = c in
-    agent_low s.args.t s.requires.0 s.args.a s.requires.2
 
 pub next_hop-requires : goal.next_hop-requires
 next_hop-requires c =
@@ -20,7 +14,3 @@ next_hop-requires c =
       c.ladder-l.ensures,
       rw (c.out_bus.ensures, c.home.ensures) (reached a.t p.0 _ _ (out_bus_there a.t p.0 a.n p.1) (home_there a.t p.0 a.a p.2)),
     )
-
-pub returns : goal.returns
-unfolding next_place
-returns c = rw (c.next_hop.ensures, c.out_bus.ensures, c.home.ensures)

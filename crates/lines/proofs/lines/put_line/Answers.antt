@@ -3,8 +3,8 @@
 use Rattle.lines.proofs.Texts.{written_one, written_on}
 use Rattle.lines.proofs.lines.put_line.Goals as goal
 
-pub returns : goal.returns
-returns c =
+pub returns-clause-written : goal.returns-clause-written
+returns-clause-written c =
     let w = c.put_word-behind_word.ensures in
     let v = c.put_numbers-end in
     written_on (written_on w v.ensures) (written_one v.new.out v.result 10)

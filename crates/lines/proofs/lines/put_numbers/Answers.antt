@@ -9,18 +9,18 @@ use Rattle.lines.proofs.lines.put_numbers.Goals as goal
 
 pub put_number-end-requires : goal.put_number-end-requires
 put_number-end-requires c =
-    let l = c.loop-i in
+    let l = c.loop-n in
     let ns = c.args.ns.now in
-    omega (arith, rw (numbers_turn ns l.i (omega arith), length-append) at l.invariant.1.reached, to_write_length l.invariant.1)
+    omega (arith, rw (numbers_turn ns l.n-index (omega arith), length-append) at l.invariant.reached, to_write_length l.invariant)
 
-pub loop-i-preserved : goal.loop-i-preserved
-loop-i-preserved c =
-    let l = c.loop-i in
+pub loop-n-preserved : goal.loop-n-preserved
+loop-n-preserved c =
+    let l = c.loop-n in
     let ns = c.args.ns.now in
-    (omega arith, to_write_on (rw (numbers_turn ns l.i (omega arith)) at l.invariant.1) c.put_number-end.ensures)
+    to_write_on (rw (numbers_turn ns l.n-index (omega arith)) at l.invariant) c.put_number-end.ensures
 
 pub returns : goal.returns
 unfolding numbers
 returns c =
-    let l = c.loop-i in
-    to_write_none (rw (drop_of_length-le c.args.ns.now {i = l.i} (search rules)) at l.invariant.1)
+    let l = c.loop-n in
+    to_write_none (rw (drop_of_length-le c.args.ns.now {i = l.n-index} (search rules)) at l.invariant)

@@ -26,18 +26,16 @@ put_steps-end-requires c =
     let q = st.requires.3 in
     (search rules, search rules, omega arith, search rules, search rules)
 
-pub returns-clause-state_value : goal.returns-clause-state_value
-returns-clause-state_value c =
+pub returns : goal.returns
+returns c =
     let a = c.args in
     let rb = c.record_bytes-r.ensures in
     let right : Right a.s = record { shaped = of_type a.s _ c.well_formed.0; is_sound = c.requires.0 } in
     let q = block_stepped a.place a.b.now _ _ _ _ a.s right c.requires.1 c.requires.2 (rw rb at c.play-state.ensures.refusals_after) (rw rb at c.play-state.ensures.values_after) in
-    (rw rb at c.play-state.ensures.value) ∙ sym q.0
-
-pub returns-clause-written : goal.returns-clause-written
-returns-clause-written c =
-    let a = c.args in
-    let rb = c.record_bytes-r.ensures in
-    let right : Right a.s = record { shaped = of_type a.s _ c.well_formed.0; is_sound = c.requires.0 } in
-    let q = block_stepped a.place a.b.now _ _ _ _ a.s right c.requires.1 c.requires.2 (rw rb at c.play-state.ensures.refusals_after) (rw rb at c.play-state.ensures.values_after) in
-    rw q.1 (rw rb at c.put_steps-end.ensures.written)
+    let end = c.put_steps-end.ensures.upper_bound in
+    let few = c.requires.2 in
+    record {
+      state_value = (rw rb at c.play-state.ensures.value) ∙ sym q.0;
+      written = rw q.1 (rw rb at c.put_steps-end.ensures.written);
+      end_bound = omega arith;
+    }

@@ -9,10 +9,10 @@ pub loop-i-preserved : goal.loop-i-preserved
 loop-i-preserved c =
     let l = c.loop-i in
     let a = c.args in
-    (omega arith, omega arith, to_write_on (rw (texts_turn a.block a.r.now a.refusals.now a.values.now a.n l.i (omega arith)) at l.invariant.2) c.put_e-end.ensures.written)
+    (omega arith, to_write_on (rw (texts_turn a.block a.r.now a.refusals.now a.values.now a.n l.i (omega arith)) at l.invariant.1) c.put_e-end.ensures.written)
 
 pub returns-clause-written : goal.returns-clause-written
 returns-clause-written c =
     let l = c.loop-i in
     let a = c.args in
-    to_write_none (rw (texts_over a.block a.r.now a.refusals.now a.values.now a.n l.i (omega arith)) at l.invariant.2)
+    to_write_none (rw (texts_over a.block a.r.now a.refusals.now a.values.now a.n l.i (omega arith)) at l.invariant.1)

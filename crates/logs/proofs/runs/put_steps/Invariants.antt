@@ -7,7 +7,4 @@ use Rattle.logs.proofs.runs.put_steps.Given as goal
 
 abbrev pub invariant-loop-i : goal.invariant-loop-i
 invariant-loop-i l =
-    (l.i ≤ l.n) × (l.end ≤ l.at + 40 * l.i) × ToWrite l.initial.out l.at (step_texts l.block l.r l.refusals l.values l.n 0) l.out l.end (step_texts l.block l.r l.refusals l.values (l.n - l.i) l.i)
-
-abbrev pub decreases-loop-i : goal.decreases-loop-i
-decreases-loop-i l = l.n - l.i
+    (l.end ≤ l.at + 40 * l.i) × ToWrite l.initial.out l.at (step_texts l.block l.r l.refusals l.values l.n 0) l.out l.end (step_texts l.block l.r l.refusals l.values (l.n - l.i) l.i)

@@ -1,2 +1,0 @@
--- Laws of what a judge says.
-pub mod Completing

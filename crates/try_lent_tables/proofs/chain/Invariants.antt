@@ -1,9 +1,0 @@
--- The loop ends, and stays within the array.
-use Rattle.std.proofs.Common.{◌-◌, ◌≤◌}
-use Rattle.try_lent_tables.proofs.chain.Given as goal
-
-abbrev pub invariant-loop-i : goal.invariant-loop-i
-invariant-loop-i l = l.i ≤ 16
-
-abbrev pub decreases-loop-i : goal.decreases-loop-i
-decreases-loop-i l = 16 - l.i
