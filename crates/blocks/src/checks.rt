@@ -1,4 +1,6 @@
-// A block's bytes: its check, its grounds in order, and the table and the records that it holds.
+// A block's bytes: its check, its grounds in order, and the table and the records that it holds. (They stay a slice, and its length and its
+// count of records clauses: an array or a struct would ask more of whoever holds bytes, and run_block, which asks nothing, has both of
+// block_answer.)
 ghost use Rattle.std.specs.Prelude.{◌≡◌, ◌+◌, ◌≤◌, map, length, Result};
 ghost use Rattle.std.proofs.Math.Seq.{slice};
 ghost use Rattle.chassis.specs.Numbers.{bus};
@@ -94,6 +96,7 @@ fn bridges_of(b: &[u8]) -> [Bridge; 15]
     pairs
 }
 
+// (A loop like the one above: one function for both would be handed what two bytes make or one, and be longer than either.)
 fn homes_of(b: &[u8]) -> [Bus; MOST_AGENTS]
     requires { length b.now ≡ 512 }
     ensures { result ≡ map bus (slice 48 80 b.now) }

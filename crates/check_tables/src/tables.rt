@@ -121,6 +121,7 @@ fn loop_free(t: Table, l: &[u8; 256]) -> bool
     true
 }
 
+// (A `for`: the proof of `(0..n).all` did not close.)
 fn all_joined(t: Table, l: &[u8; 256]) -> bool
     requires { InRange t × (l.now ≡ ladder_of t) }
     ensures { result ≡ all_joined t }
@@ -144,7 +145,7 @@ fn one_way(t: Table) -> bool
     loop_free(t, &l) && all_joined(t, &l)
 }
 
-// `stray`: whatever else brought the table has an unused byte that is not 0.
+// `stray`: whatever else brought the table has an unused byte that is not 0. (A flag, as in the definition: ground 24.)
 #[tactic(auto, unfolding(chassis::specs::Tables::table_grounds, chassis::specs::Answers::table_answer))]
 pub fn table_answer(t: Table, stray: bool) -> Result<(), Refusal>
     ensures { result ≡ table_answer t stray }

@@ -6,6 +6,7 @@ use crate::{Account, Event};
 use chassis::{Agent, Chan};
 use queue::{C, P, R, Transaction};
 
+// An agent's master channel has its number. (A definition of the network's, and no conversion that a From would name.)
 fn begins_with(kind: u8, m: Agent, a: Agent) -> Account
     ensures { result ≡ begins_with kind m a }
 {

@@ -83,7 +83,7 @@ pub struct Unfit {
     pub kind: u8,
 }
 
-// What a single step answers, its value or why it is refused, and the state beside it.
+// What a single step answers, its value or why it is refused, and the state beside it. (See Opened of network.)
 #[derive(Clone, Copy)]
 pub struct Outcome {
     pub answer: Result<u16, Refusal>,

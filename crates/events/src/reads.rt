@@ -55,6 +55,7 @@ pub fn place_of(x: Result<Step, Unfit>) -> u8
     }
 }
 
+// A line's number, and no `From`: an event is no number.
 fn kind_number(e: Event) -> u8
     ensures { result ≡ kind_number e }
 {

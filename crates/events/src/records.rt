@@ -6,11 +6,11 @@ use crate::Event;
 use chassis::{Agent, Chan};
 use queue::Transaction;
 
-// Two bytes, low first.
+// Two bytes, low first. (The functions below are told that a record has eight bytes: an array would be copied out of the slice first.)
 fn word(low: u8, high: u8) -> u16
     ensures { result ≡ low + 256 * high }
 {
-    u16::from(low) + 256 * u16::from(high)
+    u16::from_le_bytes([low, high])
 }
 
 fn begin_of(kind: u8, m: Agent, a: Agent) -> Option<Event>

@@ -49,8 +49,7 @@ fn begin(kind: u8, master: Agent, target: Agent) -> [u8; 8] {
 
 // The other kinds name a channel and, by master and number, the transaction.
 fn named(kind: u8, channel: Chan, master: Agent, number: u16) -> [u8; 8] {
-    let low = (number % 256) as u8;
-    let high = (number / 256) as u8;
+    let [low, high] = number.to_le_bytes();
     [kind, channel.0, master.0, 0, low, high, 0, 0]
 }
 

@@ -77,7 +77,7 @@ fn cross(h: &mut [u8; 256], labels: [u8; 16], near: Bus, far: Bus, c: Chan)
     }
 }
 
-// Label q becomes p.
+// Label q becomes p. (A loop: the proof of `labels.map` did not close.)
 fn merged(labels: [u8; 16], p: u8, q: u8) -> [u8; 16]
     ensures { result ≡ labelled (relabelled labels p q) }
 {
@@ -91,7 +91,8 @@ fn merged(labels: [u8; 16], p: u8, q: u8) -> [u8; 16]
 }
 
 // Made once for many questions: a question then is a look-up. Bridge after bridge joins two components: the ways from each
-// to the other are new, and each begins as the way to the bridge does, so no way is followed.
+// to the other are new, and each begins as the way to the bridge does, so no way is followed. (256 bytes, and no map: memory is
+// fixed. 255 stands where no bridge is crossed: an Option for each would double them.)
 pub fn hops(t: Table) -> [u8; 256]
     requires { table_passes t ≡ true }
     ensures { result ≡ hops_of t }

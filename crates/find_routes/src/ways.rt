@@ -67,7 +67,7 @@ impl Ways {
         !is_master(self.table, n) && self.crosses(home(self.table, m), home(self.table, a), n)
     }
 
-    // "The way from agent m to agent t starts in channel m."
+    // "The way from agent m to agent t starts in channel m." (The two numbers are compared: an agent is no channel.)
     pub fn on_the_way(&self, m: Agent, a: Agent, n: Chan) -> bool
         requires { (has_agent self.now.table m ≡ true) × (has_agent self.now.table a ≡ true) }
         ensures { result ≡ on_the_way self.now.table m a n }

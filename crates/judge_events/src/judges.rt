@@ -76,7 +76,7 @@ fn judge_begin(
     Ok(Plan {
         value: number,
         raises: true,
-        first: changes(Chan(m.0), Change::Add(x)),
+        first: changes(Chan(m.0), Change::Add(x)), // its master channel
         second: no_act(),
         third: no_act(),
     })
@@ -112,10 +112,7 @@ fn enters(next: NextPlace, x: Entry) -> Act
 fn takes_out(n: Chan, x: Entry) -> Act
     ensures { result ≡ at_channel n (Change.TakeOut x) }
 {
-    Act {
-        at: n,
-        change: Change::TakeOut(x),
-    }
+    changes(n, Change::TakeOut(x))
 }
 
 // Post: 6, 9, 5.

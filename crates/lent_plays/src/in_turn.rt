@@ -10,7 +10,8 @@ use events::records::record_at;
 use find_routes::ways::Ways;
 use network::State;
 
-// The records `r`, eight bytes each; refusals, by document 01's numbers, and values go to the lent lists.
+// The records `r`, eight bytes each; refusals, by document 01's numbers, and values go to the lent lists. (Two lists of numbers, as callers
+// lend them: another type would ask more of them.)
 pub fn play(s: State, r: &[u8], refusals: &mut [u8], values: &mut [u16]) -> State
     requires { (sound s ≡ true) × (length r.now / 8 ≤ length refusals.old) × (length r.now / 8 ≤ length values.old) }
     ensures value { result ≡ played_state s (records r.now) }

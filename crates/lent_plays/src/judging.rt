@@ -65,7 +65,7 @@ pub fn judged_in<F: Fn(Table, Chan, Agent) -> NextPlace>(
     Ok(Judged { frame, next, plan })
 }
 
-// The same, looked up in a lent hop table.
+// The same, looked up in lent ways.
 pub fn judged_by(s: &State, ways: &Ways, d: Option<Event>) -> Result<Judged, Refusal>
     requires { (sound s.now ≡ true) × (ways.now.table ≡ s.now.table) }
     ensures { result ≡ judged_of (view s.now) d }

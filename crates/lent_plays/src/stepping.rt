@@ -1,5 +1,5 @@
 // A single step on a lent state, whatever the state and however many bytes are handed in; and one record of many, for whoever lends a
-// sound state with its hop table.
+// sound state with its table's ways.
 ghost use Rattle.std.specs.Prelude.{◌≡◌, true};
 ghost use Rattle.network.specs.Soundness.{sound};
 ghost use Rattle.events.specs.Steps.{record_step, step};

@@ -1,4 +1,5 @@
-// One place of a lent state read, or changed.
+// One place of a lent state read, or changed. (Clauses say that the place is there, and above that the state is sound: a channel's number in a
+// record may be any byte, and a state is its holder's own, with public fields.)
 ghost use Rattle.std.specs.Prelude.{◌≡◌, ◌<◌, get_or};
 ghost use Rattle.chassis.specs.Capacities.{most_agents, most_channels};
 ghost use Rattle.network.specs.code.Acts.{channel_at, counted};

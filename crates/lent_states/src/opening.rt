@@ -8,7 +8,7 @@ use check_tables::tables::table_answer;
 use network::{State, zero_table};
 use queue::Channel;
 
-// "A refused table gives its number and the all-zero state."
+// "A refused table gives its number and the all-zero state." (network::open hands over a state made anew, and has none to write over.)
 #[tactic(auto, unfolding(network::specs::Opening::opened, network::specs::Opening::zero_state, network::specs::Nets::pack, network::specs::Nets::empty_net))]
 pub fn open_in(s: &mut State, t: Table, stray: bool) -> Result<(), Refusal>
     ensures { (s.new ≡ (opened t stray).state) × (result ≡ (opened t stray).answer) }

@@ -1,5 +1,5 @@
 // Records that a caller holds in arrays are lent. There is one place more than a table has, so that a list that is too long can be lent too.
-// (Arrays with counts, and no slices: whoever has slices calls lists.rt.)
+// (Arrays with counts, and no slices: whoever has slices calls lists.rt. The two functions are a line each, and answer different things.)
 
 ghost use Rattle.std.specs.Prelude.{◌≡◌, take, Option, Result};
 ghost use Rattle.lent_tables.specs.Lists.{lent_answer, joined_of};

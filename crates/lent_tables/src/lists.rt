@@ -16,7 +16,7 @@ pub fn add_bridges(t: Table, bs: &[Bridge]) -> Table
     bs.iter().fold(t, |u, g| add_bridge(u, *g))
 }
 
-// One bus for each agent.
+// One bus for each agent. (A fold as above: one function for both would only take add_bridge or add_home beside the list.)
 pub fn add_homes(t: Table, hs: &[Bus]) -> Table
     ensures { result ≡ all_added home_added t hs.now }
 {

@@ -29,7 +29,7 @@ pub fn empty(m: Numbers) -> Table
     }
 }
 
-// Where only the bridges matter.
+// Where only the bridges matter. (network has the all-zero table too, and this crate needs no network.)
 pub fn no_table() -> Table
     ensures { result ≡ empty no_numbers }
 {

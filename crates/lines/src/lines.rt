@@ -1,4 +1,5 @@
-// The log's text, written into a buffer that the caller lends. Each writer returns the place behind what it wrote.
+// The log's text, written into a buffer that the caller lends. Each writer returns the place behind what it wrote. (That there is room
+// is of two arguments, the buffer and the place, so it is no type's.)
 ghost use Rattle.std.specs.Prelude.{◌∷◌, ◌+◌, ◌≤◌, length};
 ghost use Rattle.lines.specs.Lines.{decimal, numbers, line_of, text, net, e, t, stop, end};
 ghost use Rattle.lines.specs.code.Writing.{Written};
@@ -99,7 +100,7 @@ pub fn put_e(
     )
 }
 
-// `t BLOCK REFUSAL RECORD OTHER`
+// `t BLOCK REFUSAL RECORD OTHER`; a number, since it is what the line shows.
 pub fn put_t(out: &mut [u8], at: usize, block: u32, refusal: u8, first: u8, other: u8) -> usize
     requires { at + 40 ≤ length out.old }
     ensures written { Written out.old at (text (t block refusal first other)) out.new result }
@@ -118,7 +119,7 @@ pub fn put_t(out: &mut [u8], at: usize, block: u32, refusal: u8, first: u8, othe
     )
 }
 
-// `stop BLOCK NUMBER`
+// `stop BLOCK NUMBER`; the same.
 pub fn put_stop(out: &mut [u8], at: usize, block: u32, number: u8) -> usize
     requires { at + 40 ≤ length out.old }
     ensures written { Written out.old at (text (stop block number)) out.new result }

@@ -19,7 +19,7 @@ use lent_plays::stepping::play_in;
 use lines::lines::put_e;
 use network::State;
 
-// The `e` line of a record, by what was read of it.
+// The `e` line of a record, by what was read of it. (The refusal is a number here, as the line shows it: 0 for none.)
 pub fn put_read(out: &mut [u8], at: usize, x: Result<Step, Unfit>, refusal: u8, value: u16) -> usize
     requires { at + 40 ≤ length out.old }
     ensures { Written out.old at (text (read_line x refusal value)) out.new result × (result ≤ at + 40) }

@@ -51,7 +51,8 @@ pub struct BlockRan {
     pub end: usize,
 }
 
-// A block of single steps: its records played, its `e` lines written from `at` on.
+// A block of single steps: its records played, its `e` lines written from `at` on. (play_steps_in does it on a lent state, and asks that
+// the place has two bytes; this promises it of any place.)
 pub fn play_steps(s: State, place: u32, b: &[u8], out: &mut [u8], at: usize) -> BlockRan
     requires { (sound s ≡ true) × (length b.now ≡ 512) × (record_count b.now ≤ most_records) × (at + 2520 ≤ length out.old) }
     ensures state_value { result.state ≡ (steps place 0 s (block_records b.now)).state }

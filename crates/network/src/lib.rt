@@ -16,7 +16,7 @@ use chassis::{Agent, Bridge, Bus, Chan, MOST_AGENTS, MOST_CHANNELS, Table};
 use check_tables::tables::table_answer;
 use queue::{Change, Channel};
 
-// `begins` counts each agent's accepted begins.
+// `begins` counts each agent's accepted begins. (Arrays, one place for each channel and agent: memory is fixed.)
 #[derive(Clone, Copy, Debug, PartialEq, Eq)]
 pub struct State {
     pub table: Table,
@@ -24,7 +24,8 @@ pub struct State {
     pub begins: [u16; MOST_AGENTS],
 }
 
-// What the table check answered, and beside it the empty network of a table that passed, or the all-zero state.
+// What the table check answered, and beside it the empty network of a table that passed, or the all-zero state. (Outcome of events and
+// TickOutcome of ticks are like it but for the answer: one generic struct would have every signature spell the answer's type.)
 #[derive(Clone, Copy, Debug, PartialEq, Eq)]
 pub struct Opened {
     pub answer: Result<(), Refusal>,
@@ -90,7 +91,8 @@ pub fn open(t: Table, stray: bool) -> Opened
 }
 
 impl State {
-    // One channel changed; a channel that is not there changes nothing. (act_at of lent_states asks that it is there.)
+    // One channel changed; a channel that is not there changes nothing. (act_at of lent_states asks that it is there. By an index: the
+    // proof by `get_mut` did not close.)
     #[tactic(auto, unfolding(crate::specs::code::Acts::acted_on))]
     pub fn acted(mut self, a: Act) -> State
         ensures { result ≡ acted_on self a }
@@ -102,7 +104,8 @@ impl State {
         self
     }
 
-    // An agent's count set; an agent that is not there counts nothing. (put_count of lent_states asks that it is there.)
+    // An agent's count set; an agent that is not there counts nothing. (put_count of lent_states asks that it is there. By an
+    // index, as above.)
     #[tactic(auto, unfolding(crate::specs::code::Acts::counted))]
     pub fn counted(mut self, m: Agent, n: u16) -> State
         ensures { result ≡ counted self m n }

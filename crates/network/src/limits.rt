@@ -1,4 +1,5 @@
-// Room in a channel: each kind has its own. The table's limits are read here.
+// Room in a channel: each kind has its own. The table's limits are read here. (A kind is a byte and is asked to be 1 to 3: an entry's
+// byte is compared with it, and State holds any, ground 16.)
 ghost use Rattle.std.specs.Prelude.{◌≡◌, ◌≤◌, leb};
 ghost use Rattle.chassis.specs.Channels.{limit};
 ghost use Rattle.queue.specs.Entries.{P, C};
@@ -28,7 +29,7 @@ pub fn full_in(t: Table, kind: u8, c: &Channel) -> bool
     requires { (P ≤ kind) × (kind ≤ C) }
     ensures { result ≡ is_full (room_of t kind) (live c.now) }
 {
-    limit(t, kind) <= c.filling(kind)
+    at_limit(t, kind, c.filling(kind))
 }
 
 // "No kind exceeds its limit there."

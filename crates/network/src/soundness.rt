@@ -43,7 +43,7 @@ fn stands_right(ways: &Ways, n: Chan, x: Entry) -> bool
 
 // Kinds are known; P is a write; master and target are two different agents; numbers run from 1 to the master's count; the
 // entry stands where its kind may; only R may carry the mark. The routes are asked last but one: by then the table is known
-// to have both agents.
+// to have both agents. (Ways and counts go side by side through four functions: the counts are the state's, by value.)
 #[tactic(auto, unfolding(crate::specs::Soundness::fit))]
 fn fits(ways: &Ways, begins: [u16; MOST_AGENTS], n: Chan, x: Entry) -> bool
     requires { n.0 < 255 }

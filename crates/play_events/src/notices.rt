@@ -28,6 +28,8 @@ pub fn next_of<F: Fn(Table, Chan, Agent) -> NextPlace>(
     }
 }
 
+// (A small next place is a clause: NextPlace is public, and functions that ask nothing are handed any. That a table has a channel or an agent is
+// of two arguments.)
 pub fn beside(t: Table, f: Frame, l: Option<Look>, next: NextPlace) -> Notice
     requires { (f.at.0 < 255) × small next }
     ensures { result ≡ beside t f l next }

@@ -18,6 +18,7 @@ pub struct Turn {
     pub foot: Foot,
 }
 
+// As many places as a tick has records: memory is fixed.
 #[derive(Clone, Copy)]
 pub struct Turns {
     pub all: [Turn; MOST_RECORDS],

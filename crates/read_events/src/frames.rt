@@ -20,7 +20,7 @@ fn begin_frame(t: Table, e: Event, m: Agent, a: Agent) -> Result<Frame, Refusal>
     }
     Ok(Frame {
         event: e,
-        at: Chan(m.0),
+        at: Chan(m.0), // its master channel
         master: m,
     })
 }

@@ -8,7 +8,7 @@ use std::io::Sink;
 use std::rt::Files;
 use std::{env, io};
 
-// A name may have so many bytes; a longer one counts as none.
+// A name may have so many bytes; a longer one counts as none, which has no file, as an empty line has none.
 const MOST_NAME: usize = 256;
 
 // Behind a name that may be opened there is room for its ending.

@@ -12,7 +12,7 @@ pub enum TickRefusal {
     Conflict { record: u8, other: u8 },
 }
 
-// What a tick answers, and the state beside it.
+// What a tick answers, and the state beside it. (See Opened of network.)
 #[derive(Clone, Copy)]
 pub struct TickOutcome {
     pub answer: Result<(), TickRefusal>,

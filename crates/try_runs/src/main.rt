@@ -18,7 +18,8 @@ fn show(rt: &impl Print, name: &str, input: &[u8], out: &mut [u8]) -> io::Result
     rt.println("")
 }
 
-// Reads until the buffer is full or the input is at its end; says how many bytes that were.
+// Reads until the buffer is full or the input is at its end; says how many bytes that were. (play_inputs reads so too, and keeps it to
+// itself.)
 fn read_full(from: &mut impl Read, buffer: &mut [u8]) -> io::Result<usize>
     ensures { IfOk result (λ n. n ≤ length buffer.old) }
 {
