@@ -117,11 +117,16 @@ module _ (T : Table) (ok : InRange T) where
       unfolding loop_free
       by_last = rw add-one (rw (shares l k (first_bus T k) (second_bus T k) e (omega arith) (first_low k b) (second_low k b)))
 
-      pub closes : share_label l k (first_bus T k) (second_bus T k) ≡ true → false ≡ loop_free T T.bridges
-      closes h = sym (loop_stays T (k + 1) T.bridges (omega arith) (rw (by_last, h)))
+      -- a loop that bridge k closes
+      pub closes : share_label l k (first_bus T k) (second_bus T k) ≡ true → false ≡ loop_free T (k + 1)
+      closes h = rw (by_last, h)
 
-      pub closes_not : share_label l k (first_bus T k) (second_bus T k) ≡ false → loop_free T k ≡ true → loop_free T (k + 1) ≡ true
-      closes_not h f = rw (by_last, h, f)
+      -- it stays
+      pub closes_for_good : share_label l k (first_bus T k) (second_bus T k) ≡ true → false ≡ loop_free T T.bridges
+      closes_for_good h = sym (loop_stays T (k + 1) T.bridges (omega arith) (sym (closes h)))
+
+      pub closes_not : share_label l k (first_bus T k) (second_bus T k) ≡ false → loop_free T k ≡ loop_free T (k + 1)
+      closes_not h = rw (by_last, h)
 
     pub joined_by_labels : all (λ a. share_label l T.bridges (bus a) (bus 0)) (from_to 0 T.buses) ≡ all_joined T
     unfolding all_joined

@@ -1,4 +1,4 @@
-// Component labels, level by level: what the first k bridges join, for every k at once. (256 bytes, and no map: memory is fixed. Two
+// Component labels, level by level: what the first k bridges join, for every k at once. (256 bytes, and no map: memory is fixed. Three
 // functions ask a table with its ladder, where it is made: a struct for both would be no plainer.)
 
 ghost use Rattle.std.specs.Prelude.{◌≡◌, ℕ, ◌<◌, get_or};

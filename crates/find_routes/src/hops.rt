@@ -1,6 +1,6 @@
 // The first channel of a way: found by a loop over the bridges, or looked up in a table of them.
 
-ghost use Rattle.std.specs.Prelude.{◌≡◌, true, cond, ◌+◌, ◌*◌, ◌<◌, ◌≤◌, length, get_or};
+ghost use Rattle.std.specs.Prelude.{◌≡◌, true, cond, ◌+◌, ◌*◌, ◌<◌, ◌≤◌, length, get_or, eqb};
 ghost use Rattle.chassis.specs.Capacities.{most_agents};
 ghost use Rattle.chassis.specs.Numbers.{chan};
 ghost use Rattle.chassis.specs.Ways.{hop};
@@ -49,6 +49,14 @@ pub fn next_hop(t: Table, l: &[u8; 256], k: usize, a: Bus, b: Bus) -> NextPlace
     NextPlace::Target
 }
 
+// v where x is y, else w. (A function, and no `if` where it is asked: there the compiler reads w only where it is chosen, and then does
+// not take a row at once.)
+fn chosen(x: u8, y: u8, v: u8, w: u8) -> u8
+    ensures { result ≡ cond (eqb x y) v w }
+{
+    if x == y { v } else { w }
+}
+
 // Row a of the table: where bus a has the near end's label, one channel leads to all buses that have the far end's.
 fn cross_from(h: &mut [u8; 256], labels: &[u8; 16], a: usize, near: Bus, far: Bus, c: Chan)
     requires { (length h.old ≡ 256) × (a < 16) × (near.0 < 16) × (far.0 < 16) }
@@ -62,7 +70,7 @@ fn cross_from(h: &mut [u8; 256], labels: &[u8; 16], a: usize, near: Bus, far: Bu
     let v = if a == x { c.0 } else { h[16 * a + x] };
     for b in 0..16 {
         let i = 16 * a + b;
-        h[i] = if labels[b] == z { v } else { h[i] };
+        h[i] = chosen(labels[b], z, v, h[i]);
     }
 }
 
@@ -83,9 +91,7 @@ fn merged(labels: [u8; 16], p: u8, q: u8) -> [u8; 16]
 {
     let mut r = labels;
     for x in &mut r {
-        if *x == q {
-            *x = p;
-        }
+        *x = chosen(*x, q, p, *x);
     }
     r
 }

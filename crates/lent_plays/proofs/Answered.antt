@@ -1,7 +1,7 @@
 -- What the channels of a lent state answer makes the event's own plan.
 -- A question that is not put is one whose answer no ground reads: of a begin no entry is looked for, and where the entry is not there
 -- nothing else decides.
-use Rattle.std.specs.Prelude.{Option, Some, None, Ok}
+use Rattle.std.specs.Prelude.{Option, Some, None, Ok, IfOk}
 use Rattle.std.specs.Option.{option_map}
 use Prim.Native.Nat.{ℕ}
 use mathlib.Core.Path.{◌≡◌, refl, ap, sym, subst, ◌∙◌}
@@ -9,7 +9,8 @@ use mathlib.Core.List.{List}
 use mathlib.Core.Bool.{Bool}
 use lib.ListN.{get_or}
 use Rattle.base.specs.Lists.{is_some}
-use Rattle.base.proofs.Logic.{split, there}
+use Rattle.base.proofs.Logic.{split}
+use Rattle.base.proofs.Grounds.{by_result}
 use Rattle.chassis.specs.declared.Chan.{Chan}
 use Rattle.chassis.specs.declared.NextPlace.{NextPlace}
 use Rattle.chassis.specs.declared.NextPlace.TheVariants.{Target, Through}
@@ -18,11 +19,11 @@ use Rattle.chassis.specs.Channels.{is_master}
 use Rattle.queue.specs.declared.Transaction.{Transaction}
 use Rattle.queue.specs.declared.Entry.{Entry}
 use Rattle.queue.specs.declared.Look.{Look}
-use Rattle.queue.specs.Entries.{R, C, is_named, matches}
-use Rattle.queue.specs.Queues.{oldest, has_matching, behind_P}
+use Rattle.queue.specs.Entries.{R, C}
+use Rattle.queue.specs.Queues.{has_matching}
 use Rattle.queue.specs.Packing.{live}
 use Rattle.queue.specs.code.Changes.{look_by, look_of, match_of}
-use Rattle.queue.proofs.Matching.{matching_is_naming}
+use Rattle.queue.proofs.Matching.{matches_its_name}
 use Rattle.lent_channels.specs.Looks.{look_asked, filling_asked, first_asked}
 use Rattle.network.specs.declared.State.{State}
 use Rattle.network.specs.Nets.{view}
@@ -38,12 +39,12 @@ use Rattle.read_events.specs.Frames.{own_frame, event_frame, frame, next_of, ahe
 use Rattle.read_events.specs.Sights.{small, entry_in, next_told, sight_told}
 use Rattle.read_events.proofs.Onward.{Onward, told_onward}
 use Rattle.judge_events.specs.Plans.{plan}
-use Rattle.judge_events.specs.Verdicts.{verdict}
+use Rattle.judge_events.specs.Verdicts.{Verdict, verdict}
 use Rattle.play_events.specs.declared.Notice.{Notice}
 use Rattle.play_events.specs.Notices.{look_told, Aimed, beside}
 use Rattle.play_events.proofs.Told.{by_test}
 use Rattle.play_events.proofs.Shown.{next_right}
-use Rattle.play_events.proofs.Reading.{Framed, framed, Noticed, beside_there, own_plan}
+use Rattle.play_events.proofs.Reading.{Framed, framed, Noticed, beside_there, Planned, planned, by_verdict, own_plan}
 use Rattle.lent_plays.specs.Asks.{sought_for, asks_for, fills, plan_seen, InPlace}
 
 -- ---- the sight that the answers make, against the one that a judge is told
@@ -52,12 +53,10 @@ mapped : {A B : Type 0} (f : A → B) (o : Option A) → is_some (option_map f o
 mapped f None = refl
 mapped f (Some a) = refl
 
--- where the request stands, what goes with it is found by the request's name
-by_name : (t : Transaction) (l : List Entry) (x : Entry) → oldest R t l ≡ Some x → (k : ℕ) (m : List Entry) → look_of k t m ≡ match_of k x m
+-- what goes with a request is found by the request's transaction
+by_name : (k : ℕ) (r : Entry) (l : List Entry) → look_of k r.transaction l ≡ match_of k r l
 unfolding look_of match_of
-by_name t l x h k m =
-    let named : matches k x ≡ is_named k t = rw h at (matching_is_naming k t l (rw h)) in
-    ap (λ (p : Entry → Bool). look_by p m) (sym named)
+by_name k r l = ap (λ (p : Entry → Bool). look_by p l) (sym (matches_its_name k r))
 
 sight_path : {f g w x : Bool} {a b : Option Look} {o : Bool} → f ≡ g → w ≡ x → a ≡ b → ◌≡◌ {A = Sight} (record { full = f; waits = w; answer = a; oldest = o }) (record { full = g; waits = x; answer = b; oldest = o })
 sight_path {o = o} p q r = λ i. record { full = p i; waits = q i; answer = r i; oldest = o }
@@ -86,44 +85,37 @@ module _ (s : State) (f : Frame) (count : ℕ) where
   abbrev Same : Event → NextPlace → Option Look → Type 0
   Same e next l = verdict T e count l next (answers l next e) ≡ verdict T e count l next (told l next e)
 
-  module _ (N : Chan) (t : Transaction) (w : Look) (named : (k : ℕ) (m : List Entry) → look_of k t m ≡ match_of k w.entry m) where
-    has_named : (m : List Entry) → is_some (look_of R t m) ≡ has_matching R w.entry m
+  module _ (N : Chan) (t : Transaction) (w : Look) where
+    has_matched : (l : List Entry) → is_some (look_of R w.entry.transaction l) ≡ has_matching R w.entry l
     unfolding match_of
-    has_named m = ap is_some (named R m) ∙ mapped _ _
+    has_matched l = ap is_some (by_name R w.entry l) ∙ mapped _ _
 
     latch_told : (next : NextPlace) → answers (Some w) next (Latch N t) ≡ told (Some w) next (Latch N t)
     latch_told Target = refl
-    latch_told (Through X) = sight_path refl (has_named (at X)) (named C (at (answer_or T f.at (Through X))))
+    latch_told (Through X) = sight_path refl (has_matched (at X)) (by_name C w.entry (at (answer_or T f.at (Through X))))
 
     complete_answer : (next : NextPlace) → (answers (Some w) next (Complete N t)).answer ≡ (told (Some w) next (Complete N t)).answer
     complete_answer Target = refl
-    complete_answer (Through X) = named C (at (answer_or T f.at (Through X)))
+    complete_answer (Through X) = by_name C w.entry (at (answer_or T f.at (Through X)))
 
     complete_told : (next : NextPlace) → answers (Some w) next (Complete N t) ≡ told (Some w) next (Complete N t)
     complete_told next = sight_path (split (is_master T N) (λ m. rw m) (λ m. rw m)) refl (complete_answer next)
 
-  -- where the entry is not there, and where it is
-  by_look : (e : Event) (next : NextPlace) (t : Transaction) → Same e next None → ((w : Look) → ((k : ℕ) (m : List Entry) → look_of k t m ≡ match_of k w.entry m) → Same e next (Some w)) → Same e next (look_of R t (at f.at))
-  unfolding look_of
-  by_look e next t none some =
-      there (oldest R t (at f.at))
-      (λ h. subst (Same e next) (sym (ap (option_map _) h)) none)
-      (λ x h. subst (Same e next) (sym (ap (option_map _) h)) (some (record { behind = behind_P (is_named R t) (at f.at); entry = x }) (by_name t (at f.at) x h)))
-
-  same_verdict : (e : Event) (next : NextPlace) → Same e next (look_of (account e).kind (account e).name (at f.at))
+  -- whatever look is handed over: where the entry is not there, nothing else decides
+  same_verdict : (e : Event) (next : NextPlace) (l : Option Look) → Same e next l
   unfolding verdict
-  same_verdict (BeginPosted m a) next = refl
-  same_verdict (BeginRead m a) next = refl
-  same_verdict (BeginWrite m a) next = refl
-  same_verdict (Commit N t) next = refl
-  same_verdict (Post N t) Target = refl
-  same_verdict (Post N t) (Through X) = refl
-  same_verdict (Latch N t) next =
-      by_look (Latch N t) next t refl (λ w named. ap (λ (g : Sight). verdict T (Latch N t) count (Some w) next g) (latch_told N t w named next))
-  same_verdict (Complete N t) next =
-      by_look (Complete N t) next t refl (λ w named. ap (λ (g : Sight). verdict T (Complete N t) count (Some w) next g) (complete_told N t w named next))
-  same_verdict (DropRequest N t) next = refl
-  same_verdict (DropCompletion N t) next = refl
+  same_verdict (BeginPosted m a) next l = refl
+  same_verdict (BeginRead m a) next l = refl
+  same_verdict (BeginWrite m a) next l = refl
+  same_verdict (Commit N t) next l = refl
+  same_verdict (Post N t) Target l = refl
+  same_verdict (Post N t) (Through X) l = refl
+  same_verdict (Latch N t) next None = refl
+  same_verdict (Latch N t) next (Some w) = ap (λ (g : Sight). verdict T (Latch N t) count (Some w) next g) (latch_told N t w next)
+  same_verdict (Complete N t) next None = refl
+  same_verdict (Complete N t) next (Some w) = ap (λ (g : Sight). verdict T (Complete N t) count (Some w) next g) (complete_told N t w next)
+  same_verdict (DropRequest N t) next l = refl
+  same_verdict (DropCompletion N t) next l = refl
 
 -- ---- what is noticed of a record, and its plan
 
@@ -147,7 +139,7 @@ module _ (s : State) where
       ≡ verdict s.table x.event (get_or s.begins x.master.0 0) (here x) (next x) (told s x (get_or s.begins x.master.0 0) (here x) (next x) x.event)
 
   abbrev same_frame : (e : Event) → Same s (own_frame e) (get_or s.begins (account e).name.master.0 0) e (next (own_frame e)) (here (own_frame e))
-  same_frame e = same_verdict s (own_frame e) (get_or s.begins (account e).name.master.0 0) e (next (own_frame e))
+  same_frame e = same_verdict s (own_frame e) (get_or s.begins (account e).name.master.0 0) e (next (own_frame e)) (here (own_frame e))
 
   judged : (e : Event) → Judged (own_frame e)
   unfolding plan_seen verdict
@@ -183,9 +175,15 @@ module _ (s : State) (r : Right s) (d : Decoded) (f : Frame) (isf : frame s.tabl
   its_frame : event_frame s.table f.event ≡ Ok f
   its_frame = subst (λ (x : Decoded). frame s.table x ≡ Ok f) frames.is isf
 
-  -- the plan that is seen is the event's own
-  pub answered : plan_seen s s.table f n ≡ plan (view s) f.event
-  answered = subst (Judged s) (sym frames.own) (judged s f.event) ∙ own_plan s f frames.own its_frame
+  own : plan_seen s s.table f n ≡ plan (view s) f.event
+  own = subst (Judged s) (sym frames.own) (judged s f.event) ∙ sym (by_verdict s f) ∙ own_plan s f frames.own its_frame
+
+  -- the plan that is seen is the event's own, and changes channels that are there
+  pub answered : (plan_seen s s.table f n ≡ plan (view s) f.event) × IfOk (plan_seen s s.table f n) Planned
+  answered = (
+    own,
+    by_result (λ (a : Verdict). IfOk a Planned) (plan_seen s s.table f n) (λ k h. tt) (λ p h. planned s r f.event (sym own ∙ h)),
+  )
 
   -- and the next place is the event's own, also where no entry was looked for: a begin moves nothing
   pub next_seen : on s f ≡ next_of (view s) f.event

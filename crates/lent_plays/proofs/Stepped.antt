@@ -79,12 +79,12 @@ module _ (s : State) (r : Right s) (d : Decoded) (f : Frame) (isf : frame s.tabl
   is = (seen.frames s r d f isf).is
 
   pub judged_refused : {k : Refusal} → plan_seen s s.table f (seen.n s r d f isf) ≡ Err k → Err k ≡ judged_of (view s) d
-  judged_refused h = sym (ap (judged_of (view s)) is ∙ judged_err (view s) f.event (sym (seen.answered s r d f isf) ∙ h))
+  judged_refused h = sym (ap (judged_of (view s)) is ∙ judged_err (view s) f.event (sym ((seen.answered s r d f isf).0) ∙ h))
 
   pub judged_planned : (p : Plan) → plan_seen s s.table f (seen.n s r d f isf) ≡ Ok p → (x : NextPlace) → x ≡ seen.on s f
       → Ok (record { frame = f; next = x; plan = p }) ≡ judged_of (view s) d
   judged_planned p h x isx =
-      let own = sym (seen.answered s r d f isf) ∙ h in
+      let own = sym ((seen.answered s r d f isf).0) ∙ h in
       rw (planned_is (view s) f.event own, isx, seen.next_seen s r d f isf)
       (ap (λ (g : Frame). Ok (record { frame = g; next = next_of (view s) f.event; plan = accepted_plan (view s) f.event })) (seen.frames s r d f isf).own)
       ∙ sym (ap (judged_of (view s)) is ∙ judged_ok (view s) f.event (planned_accepted (view s) f.event own))

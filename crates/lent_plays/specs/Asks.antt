@@ -1,5 +1,6 @@
 -- What a record asks of which channel, and what is said once the channels have answered. That it is the record's own plan: proofs/Answered.antt.
 use Rattle.std.specs.Prelude.{ℕ, ◌<◌, Bool, false, cond, leb, get_or, Option, None, Some}
+use Rattle.std.specs.Option.{option_map}
 use Rattle.base.specs.Lists.{is_some}
 use Rattle.chassis.specs.declared.Agent.{Agent}
 use Rattle.chassis.specs.declared.Chan.{Chan}
@@ -47,6 +48,11 @@ abbrev pub back_room : Table → Chan → Option Look → Option ℕ
 back_room T N None = None
 back_room T N (Some l) = cond (is_master T N) None (Some C)
 
+-- what goes with the request that a look found is sought by the request's own transaction, in a bridge channel N1 or behind it
+abbrev pub matched : ℕ → NextPlace → Option Look → Option Sought
+matched k Target l = None
+matched k (Through X) l = option_map (λ w. named k w.entry.transaction) l
+
 module _ (T : Table) (f : Frame) (n : Notice) where
   abbrev pub asks_for : Event → Asks
   asks_for (BeginPosted m a) = asks_room f.at (Some P)
@@ -57,15 +63,15 @@ module _ (T : Table) (f : Frame) (n : Notice) where
   asks_for (Latch N t) = record {
     room = n.ahead;
     counted = if_through n.next R;
-    waits = if_through n.next (named R t);
-    answers = if_through n.next (named C t);
+    waits = matched R n.next n.look;
+    answers = matched C n.next n.look;
     oldest = None;
   }
   asks_for (Complete N t) = record {
     room = n.back;
     counted = back_room T N n.look;
     waits = None;
-    answers = if_through n.next (named C t);
+    answers = matched C n.next n.look;
     oldest = None;
   }
   asks_for (DropRequest N t) = asks_room f.at None

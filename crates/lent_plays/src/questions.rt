@@ -1,7 +1,7 @@
 // What a record asks of which channel, as far as its kind asks. All by value: whoever is lent the state puts these questions.
 ghost use Rattle.std.specs.Prelude.{◌≡◌, ◌≤◌, IfSome};
 ghost use Rattle.queue.specs.Entries.{C};
-ghost use Rattle.lent_plays.specs.Asks.{if_through, named, sought_for, asks_room, back_room, asks, fills};
+ghost use Rattle.lent_plays.specs.Asks.{if_through, named, matched, sought_for, asks_room, back_room, asks, fills};
 
 use crate::Asks;
 use chassis::channels::is_master;
@@ -66,11 +66,22 @@ fn back_room(t: Table, n: Chan, l: Option<Look>) -> Option<u8>
     }
 }
 
-// The C that answers a request stands in the opposite of N1.
-fn answer_asked(next: NextPlace, request: Transaction) -> Option<Sought>
-    ensures { result ≡ if_through next (named C request) }
+// What goes with a request is sought by the transaction of the request that was found, and not of the one that was named: in N1, or
+// behind it.
+fn matched(kind: u8, next: NextPlace, look: Option<Look>) -> Option<Sought>
+    ensures { result ≡ matched kind next look }
 {
-    if_through(next, named(C, request))
+    match next {
+        NextPlace::Target => None,
+        NextPlace::Through(_) => look.map(|l| named(kind, l.entry.transaction)),
+    }
+}
+
+// The C that answers a request stands in the opposite of N1.
+fn answer_asked(next: NextPlace, look: Option<Look>) -> Option<Sought>
+    ensures { result ≡ matched C next look }
+{
+    matched(C, next, look)
 }
 
 // A line a kind.
@@ -83,21 +94,18 @@ pub fn asks_of(t: Table, f: Frame, n: Notice) -> Asks
         Event::BeginWrite { .. } => asks_room(f.at, Some(R)),
         Event::Commit { .. } => asks_room(f.at, None),
         Event::Post { .. } => asks_room(n.ahead, if_through(n.next, P)),
-        Event::Latch { transaction, .. } => Asks {
+        Event::Latch { .. } => Asks {
             room: n.ahead,
             counted: if_through(n.next, R),
-            waits: if_through(n.next, named(R, transaction)),
-            answers: answer_asked(n.next, transaction),
+            waits: matched(R, n.next, n.look),
+            answers: answer_asked(n.next, n.look),
             oldest: None,
         },
-        Event::Complete {
-            channel,
-            transaction,
-        } => Asks {
+        Event::Complete { channel, .. } => Asks {
             room: n.back,
             counted: back_room(t, channel, n.look),
             waits: None,
-            answers: answer_asked(n.next, transaction),
+            answers: answer_asked(n.next, n.look),
             oldest: None,
         },
         Event::DropRequest { .. } => asks_room(f.at, None),

@@ -68,10 +68,14 @@ module _ (m : Numbers) where
       (λ h t'. ap (λ T. table_answer T false) (fits gs hs g h)))
 
 -- so is the bridge between two buses
-pub between_gathered : (gs : List Bridge) (a b : Bus) → joined_in (all_added bridge_added (empty no_numbers) gs) a b ≡ joined_of gs a b
+pub between_gathered : (m : Numbers) (gs : List Bridge) (a b : Bus) → joined_in (all_added bridge_added (empty m) gs) a b ≡ joined_of gs a b
 unfolding joined_in joined_of
-between_gathered gs a b =
-    ap (λ T. joined_in T a b) (bridges_gathered no_numbers gs)
+between_gathered m gs a b =
+    ap (λ T. joined_in T a b) (bridges_gathered m gs)
     ∙ by_test 15 (length gs)
     (λ h t. rw (counted_over no_bridge 15 gs h, t))
     (λ h t. rw (counted_fits no_bridge 15 gs h, placed_fits no_bridge 15 gs h, take-append_seam))
+
+-- of a table that nothing else was put into
+pub between_alone : (gs : List Bridge) (a b : Bus) → joined_in (all_added bridge_added (empty no_numbers) gs) a b ≡ joined_of gs a b
+between_alone = between_gathered no_numbers

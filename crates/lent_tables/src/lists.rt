@@ -32,7 +32,7 @@ pub fn check(m: Numbers, bs: &[Bridge], hs: &[Bus]) -> Result<(), Refusal>
 }
 
 // The lowest bridge of a lent list between two buses. A list of more bridges than a table has is refused.
-#[tactic(auto, using(crate::proofs::Gathered::between_gathered))]
+#[tactic(auto, using(crate::proofs::Gathered::between_alone))]
 pub fn between(bs: &[Bridge], a: Bus, b: Bus) -> Result<Option<u8>, Refusal>
     ensures { result ≡ joined_of bs.now a b }
 {

@@ -1,7 +1,7 @@
 -- What is read off a sound state for a record: every place that is looked at is there, and the plan of a judge that was told what
 -- stands in those places is the event's own plan.
 use Prim.Native.Nat.{◌<◌}
-use mathlib.Core.Path.{◌≡◌, refl, ap, sym, subst}
+use mathlib.Core.Path.{◌≡◌, refl, ap, sym, subst, ◌∙◌}
 use mathlib.Core.Bool.{true}
 use mathlib.Core.List.{List}
 use Rattle.std.specs.Prelude.{Option, Some, Ok}
@@ -32,8 +32,8 @@ use Rattle.judge_events.specs.declared.Plan.{Plan}
 use Rattle.read_events.specs.Frames.{own_frame, event_frame, frame, ahead_or, answer_or, back_or}
 use Rattle.judge_events.specs.Plans.{plan}
 use Rattle.read_events.specs.Sights.{small, entry_in, next_told, sight_told}
-use Rattle.judge_events.specs.Verdicts.{verdict}
-use Rattle.play_events.specs.Notices.{look_told, Aimed, beside}
+use Rattle.judge_events.specs.Verdicts.{Verdict, verdict}
+use Rattle.play_events.specs.Notices.{look_told, Aimed, beside, notice, told_plan}
 use Rattle.play_events.proofs.Shown.{knows, plan_right}
 use Rattle.read_events.proofs.Onward.{chan_low, Onward, onward_small, ahead_there, answer_there, back_there}
 use Rattle.play_events.proofs.There.{plan_there, master_there}
@@ -113,20 +113,33 @@ module _ (s : State) (r : Right s) where
 
 -- ---- what a judge is told of a frame's channels makes the event's own plan
 
-module _ (s : State) (f : Frame) (own : f ≡ own_frame f.event) (isf : event_frame s.table f.event ≡ Ok f) where
-  abbrev at : Frame → Chan → List Entry
-  at x N = live (channel_at s N)
+module _ (s : State) where
+  abbrev at : Chan → List Entry
+  at N = live (channel_at s N)
 
   abbrev here : Frame → Option Look
-  here x = look_told x (live (channel_at s x.at))
+  here x = look_told x (at x.at)
 
   abbrev next : Frame → NextPlace
   next x = next_told s.table x.event x.at (here x)
 
   abbrev sees : Frame → Sight
-  sees x = sight_told s.table (next x) (entry_in (here x)) (live (channel_at s x.at)) (live (channel_at s (ahead_or x.at (next x)))) (live (channel_at s (answer_or s.table x.at (next x)))) (live (channel_at s (back_or s.table x.at))) x.event
+  sees x = sight_told s.table (next x) (entry_in (here x)) (at x.at) (at (ahead_or x.at (next x))) (at (answer_or s.table x.at (next x))) (at (back_or s.table x.at)) x.event
 
-  pub own_plan : verdict s.table f.event (get_or s.begins f.master.0 0) (here f) (next f) (sees f) ≡ plan (view s) f.event
-  own_plan =
-      subst (λ (x : Frame). verdict s.table x.event (get_or s.begins x.master.0 0) (here x) (next x) (sees x) ≡ plan (view s) x.event) (sym own)
-      (plan_right s f.event (here (own_frame f.event)) refl (next (own_frame f.event)) refl (sees (own_frame f.event)) refl isf)
+  -- the plan of a judge that is told what stands in a frame's own channel and in those beside it
+  abbrev pub plan_told : Frame → Verdict
+  plan_told f =
+      told_plan s.table f (get_or s.begins f.master.0 0) (notice s.table f (at f.at)) (at f.at)
+      (at (notice s.table f (at f.at)).ahead) (at (notice s.table f (at f.at)).answer) (at (notice s.table f (at f.at)).back)
+
+  -- which is its verdict
+  pub by_verdict : (f : Frame) → plan_told f ≡ verdict s.table f.event (get_or s.begins f.master.0 0) (here f) (next f) (sees f)
+  unfolding told_plan notice
+  by_verdict f = refl
+
+  module _ (f : Frame) (own : f ≡ own_frame f.event) (isf : event_frame s.table f.event ≡ Ok f) where
+    pub own_plan : plan_told f ≡ plan (view s) f.event
+    own_plan =
+        by_verdict f
+        ∙ subst (λ (x : Frame). verdict s.table x.event (get_or s.begins x.master.0 0) (here x) (next x) (sees x) ≡ plan (view s) x.event) (sym own)
+        (plan_right s f.event (here (own_frame f.event)) refl (next (own_frame f.event)) refl (sees (own_frame f.event)) refl isf)

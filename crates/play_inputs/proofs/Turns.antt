@@ -81,7 +81,7 @@ module _ {W S : Type 0} (contents : W → Option (List ℕ)) (remaining : S → 
 
   module _ (old mid new : Log W S) (s : State) (place : ℕ) (left next input : Option (List ℕ)) (before block out page : List ℕ) (got : Option ℕ) (n end : ℕ) (is : got ≡ Some n)
       (full : length before ≡ 512) (kept : length block ≡ length before) (within : IfSome got (λ n. n ≤ length before)) (read : BlockRead left next got block)
-      (written : Written out 0 (texts (next_lines place s (take n block))) page end) (room : length out ≡ 2560) (bound : end ≤ 2560) (lefts : IfSome input (Left old mid s place left)) where
+      (written : Written out 0 (texts (next_lines place s (take n block))) page end) (room : end ≤ length out) (lefts : IfSome input (Left old mid s place left)) where
     text : List ℕ
     text = take end page
 
@@ -93,7 +93,7 @@ module _ {W S : Type 0} (contents : W → Option (List ℕ)) (remaining : S → 
 
       printed : text ≡ texts (next_lines place s (take 512 l.rest))
       unfolding text
-      printed = subst (λ b. text ≡ texts (next_lines place s b)) here.bytes_are (written_read written (omega (arith, written.behind, room, bound)))
+      printed = subst (λ b. text ≡ texts (next_lines place s b)) here.bytes_are (written_read written (omega (arith, written.behind, room)))
 
       on : next_goes_on place (take n block) ≡ true → log whole ≡ (l.done ++ text) ++ texts (left_lines (place + 1) (next_state place s (take n block)) (drop 512 l.rest))
       on g =

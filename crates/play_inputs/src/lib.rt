@@ -13,7 +13,7 @@
 
 #![tactic(auto)]
 
-ghost use Rattle.std.specs.Prelude.{◌≡◌, true, false, ◌≤◌, [], length, IfSome, IfErr, OnOk};
+ghost use Rattle.std.specs.Prelude.{◌≡◌, true, false, cond, ◌≤◌, [], length, IfSome, IfErr, OnOk};
 ghost use Rattle.run_inputs.specs.Inputs.{next_goes_on};
 ghost use Rattle.play_inputs.specs.Endings.{can_end};
 ghost use Rattle.play_inputs.specs.Known.{PartRead, BlockRead, PartWritten, TextWritten, is_compared, HandedOn, EndedAs, EndedWithLog};
@@ -141,6 +141,7 @@ fn hand_on<W: Write, S: Read>(log: &mut Log<W, S>, text: &[u8]) -> Result<(), Pl
     requires { length text.now ≤ 2560 }
     ensures kept { is_compared log.new ≡ is_compared log.old }
     ensures ending { can_end (is_compared log.old) result ≡ true }
+    ensures fault { IfErr result (λ e. e ≡ cond (is_compared log.old) Differs WriteFailed) }
     ensures known { HandedOn W.contents S.remaining result log.old log.new text.now }
 {
     match log {

@@ -21,7 +21,7 @@ returns-in_err-hand_on-clause-known g c =
     let read = c.read_block.ensures in
     let page = c.play_next-r.ensures in
     ends_cut g.W.Write.contents g.S.Read.remaining c.args.log.now l.log c.hand_on.new.log l.state l.place _ _ _ l.block c.read_block.new.block l.out c.play_next-r.new.out
-    c.read_block.result c.in_ok-n.n c.play_next-r.result.end is l.invariant.block_long (search rules) read.within read.known page.written l.invariant.out_long page.end_bound l.invariant.left
+    c.read_block.result c.in_ok-n.n c.play_next-r.result.end is l.invariant.block_long (search rules) read.within read.known page.written (omega (arith, l.invariant.out_long, page.end_bound)) l.invariant.left
     _ c.from_residual-in_err-hand_on.ensures.0 c.in_err-hand_on.ensures.known
 
 pub returns-then-not-r-clause-known : goal.returns-then-not-r-clause-known
@@ -31,7 +31,7 @@ returns-then-not-r-clause-known g c =
     let read = c.read_block.ensures in
     let page = c.play_next-r.ensures in
     ends g.W.Write.contents g.S.Read.remaining c.args.log.now l.log c.hand_on.new.log l.state l.place _ _ _ l.block c.read_block.new.block l.out c.play_next-r.new.out
-    c.read_block.result c.in_ok-n.n c.play_next-r.result.end is l.invariant.block_long (search rules) read.within read.known page.written l.invariant.out_long page.end_bound l.invariant.left
+    c.read_block.result c.in_ok-n.n c.play_next-r.result.end is l.invariant.block_long (search rules) read.within read.known page.written (omega (arith, l.invariant.out_long, page.end_bound)) l.invariant.left
     c.ending.new.log c.ending.result _ page.going_value c.if-not-r.true c.in_ok-hand_on.ensures.known c.ending.ensures.known
 
 pub loop-place-preserved : goal.loop-place-preserved
@@ -48,6 +48,6 @@ loop-place-preserved g c =
       out_long = search rules;
       kept = c.hand_on.ensures.kept ∙ l.invariant.kept;
       left = goes_on g.W.Write.contents g.S.Read.remaining c.args.log.now l.log c.hand_on.new.log l.state l.place _ _ _ l.block c.read_block.new.block l.out c.play_next-r.new.out
-          c.read_block.result c.in_ok-n.n c.play_next-r.result.end is l.invariant.block_long (search rules) read.within read.known page.written l.invariant.out_long page.end_bound l.invariant.left
+          c.read_block.result c.in_ok-n.n c.play_next-r.result.end is l.invariant.block_long (search rules) read.within read.known page.written (omega (arith, l.invariant.out_long, page.end_bound)) l.invariant.left
           _ _ page.state_value page.going_value going c.in_ok-hand_on.ensures.known;
     }

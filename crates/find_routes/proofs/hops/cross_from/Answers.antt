@@ -10,7 +10,7 @@ use lib.ListN.{get_or}
 use Rattle.find_routes.specs.Crossings.{at, crossed}
 use Rattle.find_routes.proofs.Crossings.{row_next, row_ends, row_stays, spread, on_near_side, off_near_side}
 use Rattle.find_routes.proofs.hops.cross_from.Goals as goal
-use Rattle.find_routes.proofs.hops.cross_from.Goals.{then-a-x, else-a-x, then-labels-b, else-labels-b}
+use Rattle.find_routes.proofs.hops.cross_from.Goals.{then-a-x, else-a-x}
 
 pub returns-then-labels-a : goal.returns-then-labels-a
 returns-then-labels-a c =
@@ -24,8 +24,7 @@ loop-b-preserved c =
     let l = c.loop-b in
     let g = spread s.labels.now (get_or s.labels.now s.far.0 0) c.if-a-x.v (at s.h.now) in
     let same : get_or l.h (16 * s.a + l.b) 0 ≡ at s.h.now s.a l.b = l.invariant.rest (16 * s.a + l.b) (omega arith) (omega arith) in
-    let e : c.if-labels-b.h ≡ g s.a l.b =
-    elim c.if-labels-b.branch [ then-labels-b w ↦ w.h-is ∙ rw (eq-eqb _ _ w.if-labels-b.true) | else-labels-b w ↦ w.h-is ∙ same ∙ rw (ne_eqb _ _ w.if-labels-b.false) ] in
+    let e : c.chosen.result ≡ g s.a l.b = c.chosen.ensures ∙ rw same in
     row_next s.a s.h.now g l.h l.b _ c.requires.1 (omega arith) l.invariant e
 
 pub returns : goal.returns
