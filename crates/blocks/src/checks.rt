@@ -51,19 +51,19 @@ pub fn check_is_right(b: &[u8]) -> bool
     weigh(&b[..508]) == four_bytes(b, 508)
 }
 
-// An index counted by hand: by `iter` and `all` over the part a byte takes 5 or 6 instructions, so 2.7.
+// No branch at a byte, so that the compiler takes many at once.
+fn are_zero(c: &[u8]) -> bool
+    ensures { result ≡ all_zero c.now }
+{
+    c.iter().fold(true, |z, x| z & (*x == 0))
+}
+
+// Sixty-four bytes at a time, up to the first piece that is not zero.
 fn all_zero(b: &[u8], from: usize, to: usize) -> bool
     requires { to ≤ length b.now }
     ensures { result ≡ all_zero (slice from to b.now) }
 {
-    let mut i = from;
-    while i < to {
-        if b[i] != 0 {
-            return false;
-        }
-        i += 1;
-    }
-    true
+    to <= from || b[from..to].chunks(64).all(|c| are_zero(c))
 }
 
 // "All else is 0."
