@@ -11,7 +11,10 @@ pub overflow_add-sum : goal.overflow_add-sum
 overflow_add-sum c = omega (arith, c.requires c.loop-c.c-index, c.loop-c.invariant.few)
 
 pub loop-c-preserved : goal.loop-c-preserved
-loop-c-preserved c = added_one c.loop-c.invariant (c.requires c.loop-c.c-index)
+loop-c-preserved c =
+    let few = c.requires c.loop-c.c-index in
+    let one = added_one c.loop-c.invariant few in
+    record { few = omega (arith, one.few, few); rest = omega (arith, one.rest, few) }
 
 pub returns : goal.returns
 returns c =
