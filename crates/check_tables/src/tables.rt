@@ -1,6 +1,6 @@
 // Grounds 23 to 27 of a table, in their order.
 
-ghost use Rattle.std.specs.Prelude.{◌≡◌, Result, drop};
+ghost use Rattle.std.specs.Prelude.{◌≡◌, Result, true, drop};
 ghost use Rattle.base.specs.Lists.{all};
 ghost use Rattle.chassis.specs.Channels.{has_bus};
 ghost use Rattle.chassis.specs.Tables.{within, is_zero_bus, is_zero_bridge, has_both_buses, bridges_of, homes_of, counts_in_range, unused_are_zero, buses_are_there, a_bridge_on_one_bus};
@@ -72,26 +72,25 @@ fn has_bus(t: Table, b: Bus) -> bool
 
 #[tactic(auto, unfolding(base::specs::Lists::all))]
 fn bridges_are_there(t: Table) -> bool
+    requires { counts_in_range t ≡ true }
     ensures { result ≡ all (has_both_buses t) (bridges_of t) }
 {
-    t.pairs
+    t.pairs[..t.bridges as usize]
         .iter()
-        .take(t.bridges as usize)
         .all(|g| has_bus(t, g.first) && has_bus(t, g.second))
 }
 
 #[tactic(auto, unfolding(base::specs::Lists::all))]
 fn homes_are_there(t: Table) -> bool
+    requires { counts_in_range t ≡ true }
     ensures { result ≡ all (has_bus t) (homes_of t) }
 {
-    t.homes
-        .iter()
-        .take(t.agents as usize)
-        .all(|b| has_bus(t, *b))
+    t.homes[..t.agents as usize].iter().all(|b| has_bus(t, *b))
 }
 
 #[tactic(auto, unfolding(chassis::specs::Tables::buses_are_there))]
 fn buses_are_there(t: Table) -> bool
+    requires { counts_in_range t ≡ true }
     ensures { result ≡ buses_are_there t }
 {
     bridges_are_there(t) && homes_are_there(t)
@@ -99,11 +98,11 @@ fn buses_are_there(t: Table) -> bool
 
 #[tactic(auto, unfolding(chassis::specs::Tables::a_bridge_on_one_bus, base::specs::Lists::any))]
 fn a_bridge_on_one_bus(t: Table) -> bool
+    requires { counts_in_range t ≡ true }
     ensures { result ≡ a_bridge_on_one_bus t }
 {
-    t.pairs
+    t.pairs[..t.bridges as usize]
         .iter()
-        .take(t.bridges as usize)
         .any(|g| g.first == g.second)
 }
 

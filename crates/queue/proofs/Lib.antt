@@ -7,3 +7,4 @@ pub mod Moved
 pub mod Packed
 pub mod Lengths
 pub mod Marks
+pub mod Looked

@@ -3,7 +3,7 @@
 #![tactic(auto)]
 
 ghost use Rattle.std.specs.Prelude.{◌<◌, ◌-◌, min, ◌≡◌, drop};
-ghost use Rattle.base.specs.Lists.{all, any, find};
+ghost use Rattle.base.specs.Lists.{all, find};
 ghost use Rattle.queue.specs.Entries.{P, zero_entry, is_kind, is_named, marked, as_kind, is_zero_entry};
 ghost use Rattle.queue.specs.Queues.{filling, first_C};
 ghost use Rattle.queue.specs.Packing.{live, zero_channel, channel_places};
@@ -136,12 +136,18 @@ pub fn one_less(n: usize) -> usize
     n.saturating_sub(1)
 }
 
-// Whether one of them is a P.
-#[tactic(auto, unfolding(base::specs::Lists::any))]
-fn any_p(entries: &[Entry]) -> bool
-    ensures { result ≡ any (is_kind P) entries.now }
+// The oldest entry of a kind and transaction. One walk: a P that is passed before the entry is older than it.
+fn look_in(entries: &[Entry], kind: u8, t: Transaction) -> Option<Look>
+    ensures { result ≡ look_of kind t entries.now }
 {
-    entries.iter().any(|x| x.is_kind(P))
+    let mut behind = false;
+    for x in entries {
+        if x.is_named(kind, t) {
+            return Some(Look { behind, entry: *x });
+        }
+        behind = behind | x.is_kind(P);
+    }
+    None
 }
 
 impl Channel {
@@ -169,17 +175,11 @@ impl Channel {
         self.live().iter().position(|x| x.is_named(kind, t))
     }
 
-    // A P that stands before the entry is older than it.
-    #[tactic(auto, using(crate::proofs::Placed::found_inside, crate::proofs::Placed::older_are, crate::proofs::Placed::look_there, crate::proofs::Placed::look_nowhere))]
+    // The oldest of that name, and whether an older P stands before it.
     pub fn looked(&self, kind: u8, t: Transaction) -> Option<Look>
         ensures { result ≡ look_of kind t (live self.now) }
     {
-        let entries = self.live();
-        let i = self.found(kind, t)?;
-        Some(Look {
-            behind: any_p(&entries[..i]),
-            entry: entries[i],
-        })
+        look_in(self.live(), kind, t)
     }
 
     // The oldest one that matches a request. It is found by originating master and number, so by the request's own name.
